@@ -4,10 +4,10 @@ MOMENT = 1000
 
 
 class Case:
-    """Events of a wire in their order, who takes how many bytes and then none, how many turns are made, and the image begun with."""
+    """Events of a wire in their order, who takes how many bytes and then none, how many turns are made, the image begun with, and a front."""
 
-    def __init__(self, title, *events, turns=None, stalls=(), told=None, image=b""):
-        self.title, self.stalls, self.told, self.image = title, dict(stalls), told, image
+    def __init__(self, title, *events, turns=None, stalls=(), told=None, image=b"", front=False):
+        self.title, self.stalls, self.told, self.image, self.front = title, dict(stalls), told, image, front
         self.events = [it for event in events for it in (event if isinstance(event, list) else [event])]
         self.turns = len(self.events) + 3 if turns is None else turns
         assert all(bytes_ for _, word, _, bytes_ in self.events if word == "got"), title
@@ -386,6 +386,53 @@ BEGUN = [
 ]
 
 
+CHANGED = "Last-Modified: Thu, 01 Jan 1970 00:05:00 GMT"
+GONE_ON = head("HTTP/1.1 304 Not Modified", TAGGED)
+
+
+def fronted(title, *events, **words):
+    return Case(f"Behind a front: {title}", *events, front=True, **words)
+
+
+def held(*fields, **words):
+    """What a client asks that has a copy."""
+    return request("/x", *fields, **words)
+
+
+STORED = [*asks(GET), got(2, answer(b"hi", FRESH, TAGGED)), *quiet(3)]
+LISTED = 'If-None-Match: "u", W/"v"'
+OWN = 'If-None-Match: "v"'
+
+FRONTED = [
+    fronted("a tag of the list is that of what is stored, by the weak comparison. It gets a 304, and no origin is asked.", STORED, got(1, held(LISTED)), quiet(2)),
+    fronted("no tag is, so it gets the head and the body.", STORED, got(1, held('If-None-Match: "u"')), quiet(2)),
+    Case("The same without a front: the origin is asked, and sees the condition.", STORED, got(1, held(LISTED)), got(3, GONE_ON), quiet(2)),
+    fronted(
+        "nothing is stored. The origin is asked without the condition, and what comes is stored. Who had the copy gets a 304, and who comes next the body.",
+        asks(held(OWN)), got(2, answer(b"hi", FRESH, TAGGED)), quiet(3), got(1, GET), quiet(2),
+    ),
+    fronted(
+        "no later than the moment that the client names, and later than that.",
+        asks(GET), got(2, answer(b"hi", FRESH, CHANGED)), quiet(3), got(1, held("If-Modified-Since: Thu, 01 Jan 1970 00:05:00 GMT")), quiet(2),
+        got(1, held("If-Modified-Since: Thu, 01 Jan 1970 00:04:59 GMT")), quiet(2),
+    ),
+    fronted("over a part it is none that the front answers. The origin is asked for it as it is.", STORED, got(1, held(OWN, "Range: bytes=0-0")), got(3, GONE_ON), quiet(2)),
+    fronted("nor is it by HEAD.", STORED, got(1, held(OWN, method="HEAD")), got(3, GONE_ON), quiet(2)),
+    fronted(
+        "the body breaks off behind the 304. That was whole, so the connection stays.",
+        asks(held(OWN)), got(2, answer(b"h", "Content-Length: 2", FRESH, TAGGED, length=False)), quiet(2), broke(2), quiet(),
+        got(1, request("/y")), got(3, answer(b"hi", FRESH, TAGGED)), quiet(3),
+    ),
+    fronted("a body in chunks is held by a client, too.", asks(held("If-None-Match: *")), got(2, chunked(b"hi")), quiet(4), got(1, GET), quiet(2)),
+    fronted(
+        "one of HTTP/1.0 gets a 304, and the close behind the body that it is not sent.",
+        asks(held(OWN, version="1.0")), got(2, answer(b"hi", FRESH, TAGGED)), quiet(4),
+    ),
+    fronted("from an image, the client has a copy of whatever is stored.", asks(held("If-None-Match: *")), quiet(2), got(1, GET), quiet(2), image=IMAGE),
+    Case("The front was of that run alone.", asks(held("If-None-Match: *")), got(2, GONE_ON), quiet(2)),
+]
+
+
 def breaks():
     """A break of either connection at each turn of the row."""
     for k, whose in ((1, "client"), (2, "origin")):
@@ -394,4 +441,4 @@ def breaks():
             yield Case(title, ROW[:place], broke(k), ROW[place:], turns=len(ROW) + 2)
 
 
-CASES = [*WHOLE, *CUT, *BAD_ANSWERS, *CHUNKS, *REQUESTS, *REFUSED, *STORE, *STALLS, *BEGUN, *breaks(), *MANY]
+CASES = [*WHOLE, *CUT, *BAD_ANSWERS, *CHUNKS, *REQUESTS, *REFUSED, *STORE, *STALLS, *BEGUN, *breaks(), *MANY, *FRONTED]

@@ -6,6 +6,7 @@ the number of its denial one tells whether an exchange is open and wanted, or a 
 """
 import subprocess
 
+import conditions
 import messages
 
 SLICE = 16_384
@@ -124,7 +125,7 @@ class Client:
     def __init__(self):
         self.input, self.owed, self.taken = b"", b"", 0
         self.consumer, self.closing = None, False
-        self.old, self.no_body, self.form = False, False, None
+        self.old, self.no_body, self.form, self.copy = False, False, None, None
 
     def is_behind(self):
         return self.taken < len(self.owed)
@@ -137,8 +138,8 @@ class Upstream:
 
 
 class Loop:
-    def __init__(self, wire, core):
-        self.wire, self.core = wire, core
+    def __init__(self, wire, core, front=False):
+        self.wire, self.core, self.front = wire, core, front
         self.moment, self.starts = core.moment, core.last
         self.clients, self.upstreams, self.owners = {}, {}, {}
 
@@ -235,10 +236,12 @@ class Loop:
             request, client.input = found[1], found[2]
             self.starts += 1
             client.consumer, client.old, client.form = self.starts, request["old"], None
-            client.no_body = request["method"] == b"HEAD"
+            client.no_body, client.copy, fields = request["method"] == b"HEAD", None, request["fields"]
+            if self.front and conditions.is_fronted(request["method"], fields):
+                client.copy, fields = fields, conditions.without_conditions(fields)
             self.owners[self.starts] = k
-            lines = b"".join(name + b": " + value + b"\n" for name, value in request["fields"])
-            words = (self.starts, request["method"], request["key"], len(request["fields"]))
+            lines = b"".join(name + b": " + value + b"\n" for name, value in fields)
+            words = (self.starts, request["method"], request["key"], len(fields))
             self.step(b"start %d %s normal %s %d\n" % words + lines)
 
     # What is done
@@ -255,12 +258,16 @@ class Loop:
     def render(self, client, words, fields):
         if words[0] == b"shown":
             status = int(words[4])
+            if client.copy is not None and conditions.holds(client.copy, status, fields):
+                client.form = "held"
+                client.owed += messages.head_text(304, conditions.told_fields(fields), False)
+                return
             plain = client.old or client.no_body or status in (204, 304) or any(n == b"content-length" for n, _ in fields)
             client.form = "plain" if plain else "chunks"
             client.owed += messages.head_text(status, fields, client.form == "chunks")
         elif words[0] == b"data":
             bytes_ = bytes.fromhex(words[4].decode())
-            client.owed += messages.chunk_text(bytes_) if client.form == "chunks" else bytes_
+            client.owed += {"chunks": messages.chunk_text(bytes_), "held": b""}.get(client.form, bytes_)
         elif words[0] == b"ended":
             client.owed += messages.chunk_text(b"") if client.form == "chunks" else b""
             client.consumer, client.closing = None, client.old
@@ -269,7 +276,7 @@ class Loop:
             client.owed += messages.empty_answer(status)
             client.consumer, client.closing = None, client.old
         else:
-            client.consumer, client.closing = None, True
+            client.consumer, client.closing = None, client.old or client.form != "held"
 
     def send(self):
         for k, client in sorted(self.clients.items()):

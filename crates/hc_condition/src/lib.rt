@@ -8,4 +8,4 @@ mod shown_acts;
 
 pub use external::is_external;
 pub use not_modified::is_not_modified;
-pub use shown_acts::{is_denied, leaves_in, report_all, unconditioned};
+pub use shown_acts::{fields_of_304, is_denied, leaves_in, report_all, unconditioned};

@@ -137,7 +137,7 @@ fn reported(alloc: Global, request: &Request, act: Act) -> Result<(Act, bool), N
 }
 
 /// The fields of a head that a 304 tells (RFC 9110 section 15.4.5).
-fn fields_of_304(fields: &Fields) -> Result<Fields, NoMemory>
+pub fn fields_of_304(fields: &Fields) -> Result<Fields, NoMemory>
     ensures { IfOk result (λ reported. reported ≡ fields_of_304 fields.now) }
 {
     let mut reported = fields.copy()?;

@@ -1,5 +1,5 @@
 -- What came of serving what a folder keeps.
-use Rattle.std.specs.Prelude.{◌≡◌, ◌≢◌, ◌⊎◌, ℕ, ◌+◌, ◌<◌, ◌≤◌, ◌^◌, Option, Some, None, IfSome, Result, Ok, Err}
+use Rattle.std.specs.Prelude.{◌≡◌, ◌≢◌, ◌⊎◌, ℕ, ◌+◌, ◌<◌, ◌≤◌, ◌^◌, true, Option, Some, None, IfSome, Result, Ok, Err}
 use Rattle.hc_rules.specs.declared.room.Limits.{Limits}
 use Rattle.hc_contents.specs.Fit.{unfit_of}
 use Rattle.hc_contents.specs.PlainContents.{plain_contents}
@@ -19,6 +19,7 @@ use Rattle.hc_keeping.specs.Keeps.{HasKeepCause, Keeps}
 use Rattle.hc_keeping.specs.declared.keeping.KeepError.{KeepError}
 use Rattle.hc_keeping.specs.declared.keeping.Kept.{Kept}
 use Rattle.hc_proxy.specs.Keeping.{IsStocked}
+use Rattle.hc_proxy.specs.Rows.{setting_of}
 use Rattle.hc_proxy.specs.Served.{ServesWith}
 use Rattle.hc_keep_app.specs.declared.serving.Ready.{Ready}
 use Rattle.hc_keep_app.specs.declared.serving.Serving.{Serving}
@@ -27,14 +28,14 @@ use Rattle.hc_keep_app.specs.declared.serving.Unserved.TheVariants as why
 
 -- WHAT IS SERVED
 
--- The wire was bound as it is asked, and served from the contents that were recovered of the files: what happened is a run from
--- these, in which each consumer reads one answer whole.
+-- The wire was bound as it is asked, and served from the contents that were recovered of the files, with a front for requests on
+-- condition of a copy: what happened is a run from these contents, in which each consumer reads one answer whole.
 pub record IsServed (serving : Serving) (files : Option Files) (log log' : Option Log) (end : Ended) : Type 0 where
   pub kept : Kept
   pub recovered : IfSome files (λ f. Keeps serving.limits f (Ok kept))
   pub bound : Option Log
   pub binds : Reports log bound (with_binding (Some serving.listen) (Some serving.origin))
-  pub serves : ServesWith serving.limits (plain_contents kept.contents) serving.turns bound log' None None end
+  pub serves : ServesWith serving.limits (setting_of (plain_contents kept.contents) true) serving.turns bound log' None None end
   -- no record in memory or in a folder fails
   pub never : end ≢ ended.SinkFailed
 

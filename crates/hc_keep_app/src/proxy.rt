@@ -1,4 +1,8 @@
 //! The proxy: what its words ask for, over the files and the sockets of the system.
+ghost use Rattle.std.specs.Prelude.{◌≡◌, ◌+◌, []};
+ghost use Rattle.hc_core.specs.Steps.{StandsFor, bytes_received, steps};
+ghost use Rattle.hc_model.specs.Entries.{no_contents};
+
 use crate::ending::{Ending, ended_as, unrecovered};
 use crate::nowhere::Nowhere;
 use crate::say::{
@@ -9,7 +13,7 @@ use crate::words::{Asked, Plan, asked_in};
 use hc_contents::Contents;
 use hc_core::Cache;
 use hc_disk::{Locked, StdFolder, lock};
-use hc_proxy::serve_on;
+use hc_proxy::serve_from;
 use hc_sockets::MioWire;
 use hc_store::Memory;
 use hc_wire::{Wire, WireError};
@@ -41,14 +45,30 @@ fn pass(rt: HostRuntime, plan: Plan<'_>) -> Ending {
         return Ending::NoMemory;
     };
     let store = Memory::new(alloc, plan.limits);
-    let Ok(cache) = Cache::new(store, plan.limits, alloc) else {
-        return Ending::NoMemory;
-    };
-    let mut wire = MioWire::with_patience(mine, plan.patience);
+    match Cache::new(store, plan.limits, alloc) {
+        Ok(cache) => pass_on(rt, plan, mine, cache),
+        Err(_) => Ending::NoMemory,
+    }
+}
+
+/// The same over an empty cache.
+fn pass_on(rt: HostRuntime, plan: Plan<'_>, net: HostRuntime, cache: Cache<Memory>) -> Ending
+    requires new { StandsFor cache no_contents [] }
+    requires unused { steps cache + bytes_received cache ≡ 0 }
+{
+    let mut wire = MioWire::with_patience(net, plan.patience);
     match wire.bind(Some(plan.listen), Some(plan.origin)) {
         Ok(()) => {
             let _told = say_start(&rt, plan, Start::empty());
-            ended_as(serve_on(alloc, cache, &mut wire, &mut Nowhere, plan.turns))
+            ended_as(serve_from(
+                rt.alloc(),
+                cache,
+                0,
+                true,
+                &mut wire,
+                &mut Nowhere,
+                plan.turns,
+            ))
         }
         Err(WireError::WireFailed) => {
             let _told = say_unbound(&rt, plan.listen);

@@ -107,8 +107,8 @@ pub struct Ready {
 }
 
 /// Serves what a folder keeps, over a wire that listens first, and keeps in the folder what happens. The
-/// new image is put before the first turn. Where nothing is served, no file of the folder has changed,
-/// and the wire is as it was.
+/// new image is put before the first turn. A front answers requests on condition of a copy that a client
+/// has. Where nothing is served, no file of the folder has changed, and the wire is as it was.
 pub fn serve_kept<F: Folder + Drop, W: Wire, T: Watcher>(
     alloc: Global,
     serving: Serving,
@@ -143,6 +143,7 @@ pub fn serve_kept<F: Folder + Drop, W: Wire, T: Watcher>(
         alloc,
         ready.cache,
         ready.last,
+        true,
         wire,
         &mut log,
         serving.turns,

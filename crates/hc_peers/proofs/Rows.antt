@@ -6,10 +6,10 @@
 use Rattle.std.{proofs.{Common.{◌≡◌, ◌≢◌, ℕ, zero, suc, ◌<◌, List, [], length, drop, Bool, true, false, Option, Some, None, Ok, Err, eqb, inl, inr, refl, sym, ap, ◌∙◌, arith}, lemmas.{Bool.{cases_Bool, eqb-true, eq-eqb, ne_eqb}, List.{nil_from_length}}}, specs.Prelude.{is_none, ◌&&◌, IsSome}}
 use Rattle.hc_text.proofs.Basics.{and_none as and-false}
 use Rattle.hc_event.specs.declared.act.Act.{Act}
-use Rattle.hc_head.specs.declared.message.{MsgError.{MsgError}, WireRequest.{WireRequest}}
+use Rattle.hc_head.specs.declared.message.MsgError.{MsgError}
 use Rattle.hc_head.specs.declared.message.MsgError.TheVariants as error
 use Rattle.hc_msg.specs.{Inputs.{Next, Waits, Reports, Brings, Ends, Fails, next_in}, Reading.{Asks, Answers, Byte}}
-use Rattle.hc_peers.specs.{declared.client.Client.{Client}, Agreement.{consumer_at, ready_at, settled_at}, Peers.{is_ready, is_idle, is_settled, is_over, is_same, Reads, IsRead, asks, refused, answered, addressee}, Clients.{hearing, outcome_of, answered_in, is_same_consumer, has_all}, Offering.{sent_more}}
+use Rattle.hc_peers.specs.{declared.{client.Client.{Client}, reply.Asking.{Asking}}, Agreement.{consumer_at, ready_at, settled_at}, Peers.{is_ready, is_idle, is_settled, is_over, is_same, Reads, IsRead, asks, refused, answered, addressee}, Renderings.{asking_of}, Clients.{hearing, outcome_of, answered_in, is_same_consumer, has_all}, Offering.{sent_more}}
 use Rattle.hc_peers.specs.declared.clients.NextRequest.TheVariants as heard
 
 -- WHO ISN'T TO BE READ
@@ -97,47 +97,48 @@ settled-sent x left n is settled =
 
 -- WHAT IS READ
 
-none-read : (next : Next) (old new : Client) → IsRead next old new (Ok None) → new.input ≡ []
-none-read (Waits reading) old new h = ap (λ (x : Client). x.input) h.1
-none-read (Reports (Asks request) reading rest) old new h = absurd (let e = h.0 in cc)
-none-read (Reports (Answers response) reading rest) old new h = absurd h
-none-read (Reports (Byte b) reading rest) old new h = absurd h
-none-read (Brings bytes reading rest) old new h = absurd h
-none-read Ends old new h = absurd h
-none-read (Fails e) old new h = absurd (let f = h.0 in cc)
+none-read : (front : Bool) (next : Next) (old new : Client) → IsRead front next old new (Ok None) → new.input ≡ []
+none-read front (Waits reading) old new h = ap (λ (x : Client). x.input) h.1
+none-read front (Reports (Asks request) reading rest) old new h = absurd (let e = h.0 in cc)
+none-read front (Reports (Answers response) reading rest) old new h = absurd h
+none-read front (Reports (Byte b) reading rest) old new h = absurd h
+none-read front (Brings bytes reading rest) old new h = absurd h
+none-read front Ends old new h = absurd h
+none-read front (Fails e) old new h = absurd (let f = h.0 in cc)
 
-pub none-left : (old new : Client) → Reads old new (Ok None) → new.input ≡ []
-none-left old new h = elim h [ inl e ↦ absurd (cc) | inr r ↦ none-read (next_in 1 old.reader old.input) old new r ]
+pub none-left : (front : Bool) (old new : Client) → Reads front old new (Ok None) → new.input ≡ []
+none-left front old new h = elim h [ inl e ↦ absurd (cc) | inr r ↦ none-read front (next_in 1 old.reader old.input) old new r ]
 
-some-read : (c k : ℕ) (next : Next) (old new : Client) (request : WireRequest) → IsRead next old new (Ok (Some request))
-    → (asks c request new ≡ hearing c next old) × (heard.Asks k request.request ≡ outcome_of k next)
-some-read c k (Waits reading) old new request h = absurd (let e = h.0 in cc)
-some-read c k (Reports (Asks asked) reading rest) old new request h =
-    let e : request ≡ asked = let g = h.0 in cc in
+some-read : (c k : ℕ) (front : Bool) (next : Next) (old new : Client) (asking : Asking) → IsRead front next old new (Ok (Some asking))
+    → (asks c asking.reply new ≡ hearing c front next old) × (heard.Asks k asking.request ≡ outcome_of k front next)
+some-read c k front (Waits reading) old new asking h = absurd (let e = h.0 in cc)
+some-read c k front (Reports (Asks asked) reading rest) old new asking h =
+    let e : asking ≡ asking_of front asked = let g = h.0 in cc in
     rw (e, h.1) (refl, refl)
-some-read c k (Reports (Answers response) reading rest) old new request h = absurd h
-some-read c k (Reports (Byte b) reading rest) old new request h = absurd h
-some-read c k (Brings bytes reading rest) old new request h = absurd h
-some-read c k Ends old new request h = absurd h
-some-read c k (Fails e) old new request h = absurd (let f = h.0 in cc)
+some-read c k front (Reports (Answers response) reading rest) old new asking h = absurd h
+some-read c k front (Reports (Byte b) reading rest) old new asking h = absurd h
+some-read c k front (Brings bytes reading rest) old new asking h = absurd h
+some-read c k front Ends old new asking h = absurd h
+some-read c k front (Fails e) old new asking h = absurd (let f = h.0 in cc)
 
-pub some-heard : (c k : ℕ) (old new : Client) (request : WireRequest) → Reads old new (Ok (Some request))
-    → (asks c request new ≡ hearing c (next_in 1 old.reader old.input) old) × (heard.Asks k request.request ≡ outcome_of k (next_in 1 old.reader old.input))
-some-heard c k old new request h = elim h [ inl e ↦ absurd (cc) | inr r ↦ some-read c k (next_in 1 old.reader old.input) old new request r ]
+pub some-heard : (c k : ℕ) (front : Bool) (old new : Client) (asking : Asking) → Reads front old new (Ok (Some asking))
+    → (asks c asking.reply new ≡ hearing c front (next_in 1 old.reader old.input) old)
+    × (heard.Asks k asking.request ≡ outcome_of k front (next_in 1 old.reader old.input))
+some-heard c k front old new asking h = elim h [ inl e ↦ absurd (cc) | inr r ↦ some-read c k front (next_in 1 old.reader old.input) old new asking r ]
 
-error-read : (c k : ℕ) (next : Next) (old new : Client) (e : MsgError) → IsRead next old new (Err e)
-    → (refused e new ≡ hearing c next old) × (heard.Nothing ≡ outcome_of k next)
-error-read c k (Waits reading) old new e h = absurd (let f = h.0 in cc)
-error-read c k (Reports (Asks asked) reading rest) old new e h = absurd (let f = h.0 in cc)
-error-read c k (Reports (Answers response) reading rest) old new e h = absurd h
-error-read c k (Reports (Byte b) reading rest) old new e h = absurd h
-error-read c k (Brings bytes reading rest) old new e h = absurd h
-error-read c k Ends old new e h = absurd h
-error-read c k (Fails f) old new e h = let same : e ≡ f = let g = h.0 in cc in rw (same, h.1) (refl, refl)
+error-read : (c k : ℕ) (front : Bool) (next : Next) (old new : Client) (e : MsgError) → IsRead front next old new (Err e)
+    → (refused e new ≡ hearing c front next old) × (heard.Nothing ≡ outcome_of k front next)
+error-read c k front (Waits reading) old new e h = absurd (let f = h.0 in cc)
+error-read c k front (Reports (Asks asked) reading rest) old new e h = absurd (let f = h.0 in cc)
+error-read c k front (Reports (Answers response) reading rest) old new e h = absurd h
+error-read c k front (Reports (Byte b) reading rest) old new e h = absurd h
+error-read c k front (Brings bytes reading rest) old new e h = absurd h
+error-read c k front Ends old new e h = absurd h
+error-read c k front (Fails f) old new e h = let same : e ≡ f = let g = h.0 in cc in rw (same, h.1) (refl, refl)
 
-pub error-heard : (c k : ℕ) (old new : Client) (e : MsgError) → (e ≡ error.NoMemory → ⊥) → Reads old new (Err e)
-    → (refused e new ≡ hearing c (next_in 1 old.reader old.input) old) × (heard.Nothing ≡ outcome_of k (next_in 1 old.reader old.input))
-error-heard c k old new e not_so h = elim h [ inl f ↦ absurd (not_so (cc)) | inr r ↦ error-read c k (next_in 1 old.reader old.input) old new e r ]
+pub error-heard : (c k : ℕ) (front : Bool) (old new : Client) (e : MsgError) → (e ≡ error.NoMemory → ⊥) → Reads front old new (Err e)
+    → (refused e new ≡ hearing c front (next_in 1 old.reader old.input) old) × (heard.Nothing ≡ outcome_of k front (next_in 1 old.reader old.input))
+error-heard c k front old new e not_so h = elim h [ inl f ↦ absurd (not_so (cc)) | inr r ↦ error-read c k front (next_in 1 old.reader old.input) old new e r ]
 
 pub nobody-at : (c : ℕ) (o : Option Client) → ((x : Client) → o ≡ Some x → x.consumer ≢ Some c) → consumer_at o ≢ Some c
 nobody-at c None h = λ e. absurd (cc)

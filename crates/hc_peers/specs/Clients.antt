@@ -12,6 +12,7 @@ use Rattle.hc_peers.specs.declared.clients.Clients.{Clients}
 use Rattle.hc_peers.specs.declared.clients.NextRequest.{NextRequest}
 use Rattle.hc_peers.specs.declared.clients.NextRequest.TheVariants as heard
 use Rattle.hc_peers.specs.Peers.{read_to, asks, refused, answered, addressee}
+use Rattle.hc_peers.specs.Renderings.{asked_of, reply_to}
 
 -- WHAT IT HAS
 
@@ -62,31 +63,32 @@ received bytes client = record client { input = client.input ++ bytes }
 -- ITS NEXT REQUEST
 
 -- what becomes of a client by what stands next, where the next consumer is c
-abbrev pub hearing : ℕ → Next → Client → Client
-hearing c (Waits reading) client = read_to reading [] client
-hearing c (Reports (Asks request) reading rest) client = asks c request (read_to reading rest client)
-hearing c (Fails e) client = refused e (read_to (Failed e) [] client)
-hearing c _ client = client
+abbrev pub hearing : ℕ → Bool → Next → Client → Client
+hearing c front (Waits reading) client = read_to reading [] client
+hearing c front (Reports (Asks request) reading rest) client =
+    asks c (reply_to front request) (read_to reading rest client)
+hearing c front (Fails e) client = refused e (read_to (Failed e) [] client)
+hearing c front _ client = client
 
 -- what is told of it
-abbrev pub outcome_of : ℕ → Next → NextRequest
-outcome_of k (Reports (Asks request) reading rest) = heard.Asks k request.request
-outcome_of k _ = heard.Nothing
+abbrev pub outcome_of : ℕ → Bool → Next → NextRequest
+outcome_of k front (Reports (Asks request) reading rest) = heard.Asks k (asked_of front request)
+outcome_of k front _ = heard.Nothing
 
 -- that of the first one was read, which waits for something now or gave all that came
-pub record IsHeard (c : ℕ) (old new : Clients) (result : NextRequest) : Type 0 where
+pub record IsHeard (c : ℕ) (front : Bool) (old new : Clients) (result : NextRequest) : Type 0 where
   pub k : ℕ
   pub rest : List ℕ
   pub client : Client
   pub first : ready_of old ≡ k ∷ rest
   pub row : client_of old k ≡ Some client
   pub others : ready_of new ≡ rest
-  pub becomes : Becomes k (Some (hearing c (next_in 1 client.reader client.input) client)) old new
-  pub result_is : result ≡ outcome_of k (next_in 1 client.reader client.input)
+  pub becomes : Becomes k (Some (hearing c front (next_in 1 client.reader client.input) client)) old new
+  pub result_is : result ≡ outcome_of k front (next_in 1 client.reader client.input)
 
-pub data HearsNext (c : ℕ) (old new : Clients) (result : NextRequest) : Type 0 where
-  nobody : ready_of old ≡ [] → result ≡ heard.Nobody → Stays old new → HearsNext c old new result
-  somebody : IsHeard c old new result → HearsNext c old new result
+pub data HearsNext (c : ℕ) (front : Bool) (old new : Clients) (result : NextRequest) : Type 0 where
+  nobody : ready_of old ≡ [] → result ≡ heard.Nobody → Stays old new → HearsNext c front old new result
+  somebody : IsHeard c front old new result → HearsNext c front old new result
 
 -- ANSWERS
 

@@ -4,19 +4,19 @@ use Rattle.hc_event.specs.declared.act.Act.{Act}
 use Rattle.hc_event.specs.declared.act.Act.TheVariants as act
 use Rattle.hc_head.specs.declared.message.MsgError.{MsgError}
 use Rattle.hc_head.specs.declared.message.MsgError.TheVariants as error
-use Rattle.hc_head.specs.declared.message.WireRequest.{WireRequest}
 use Rattle.hc_msg.specs.Inputs.{Next, Waits, Reports, Fails, next_in}
 use Rattle.hc_msg.specs.Reading.{Reading, Requests, Failed, Asks, heading}
 use Rattle.hc_peers.specs.declared.client.Client.{Client}
 use Rattle.hc_peers.specs.declared.reply.Form.TheVariants.{Headless}
 use Rattle.hc_peers.specs.declared.reply.Reply.{Reply}
-use Rattle.hc_peers.specs.Renderings.{reply_to, empty_answer, error_status, rendering, form_behind, is_last, closes}
+use Rattle.hc_peers.specs.declared.reply.Asking.{Asking}
+use Rattle.hc_peers.specs.Renderings.{asking_of, empty_answer, error_status, rendering, form_behind, is_last, closes}
 
 -- HOW ONE BEGINS
 
 -- to no request
 abbrev pub no_reply : Reply
-no_reply = record { old = false; no_body = false; form = Headless }
+no_reply = record { old = false; no_body = false; form = Headless; copy = None }
 
 -- a client of which nothing came
 abbrev pub new_client : Client
@@ -57,9 +57,9 @@ is_settled client =
 abbrev pub read_to : Reading → List ℕ → Client → Client
 read_to reading rest client = record client { reader = reading; input = rest }
 
--- the consumer c asks for it
-abbrev pub asks : ℕ → WireRequest → Client → Client
-asks c request client = record client { consumer = Some c; reply = reply_to request }
+-- the consumer c asks for what this is the answer to
+abbrev pub asks : ℕ → Reply → Client → Client
+asks c reply client = record client { consumer = Some c; reply = reply }
 
 -- its error answer is owed, and the close
 abbrev pub refused : MsgError → Client → Client
@@ -69,17 +69,17 @@ refused e client = record client {
 }
 
 -- it is read, and what stands next is a request, an error or nothing yet
-abbrev pub IsRead : Next → Client → Client → Result (Option WireRequest) MsgError → Type 0
-IsRead (Waits reading) old new result = (result ≡ Ok None) × (new ≡ read_to reading [] old)
-IsRead (Reports (Asks request) reading rest) old new result =
-    (result ≡ Ok (Some request)) × (new ≡ read_to reading rest old)
-IsRead (Fails e) old new result = (result ≡ Err e) × (new ≡ read_to (Failed e) [] old)
-IsRead _ old new result = ⊥
+abbrev pub IsRead : Bool → Next → Client → Client → Result (Option Asking) MsgError → Type 0
+IsRead front (Waits reading) old new result = (result ≡ Ok None) × (new ≡ read_to reading [] old)
+IsRead front (Reports (Asks request) reading rest) old new result =
+    (result ≡ Ok (Some (asking_of front request))) × (new ≡ read_to reading rest old)
+IsRead front (Fails e) old new result = (result ≡ Err e) × (new ≡ read_to (Failed e) [] old)
+IsRead front _ old new result = ⊥
 
 -- or memory was refused
-abbrev pub Reads : Client → Client → Result (Option WireRequest) MsgError → Type 0
-Reads old new result =
-    (result ≡ Err error.NoMemory) ⊎ IsRead (next_in 1 old.reader old.input) old new result
+abbrev pub Reads : Bool → Client → Client → Result (Option Asking) MsgError → Type 0
+Reads front old new result =
+    (result ≡ Err error.NoMemory) ⊎ IsRead front (next_in 1 old.reader old.input) old new result
 
 -- AN ANSWER
 

@@ -1,9 +1,11 @@
 -- What a client is sent: the acts of its consumers, as bytes of HTTP/1.1 (RFC 9112).
-use Rattle.std.specs.Prelude.{ℕ, List, [], ◌∷◌, ◌||◌, Bool, true, false, codes, bytes_eq, if◌then◌else◌}
+use Rattle.std.specs.Prelude.{ℕ, List, [], ◌∷◌, ◌&&◌, ◌||◌, Bool, true, false, Option, Some, None, codes, bytes_eq, if◌then◌else◌}
 use Rattle.hc_event.specs.declared.act.Act.{Act}
 use Rattle.hc_event.specs.declared.act.Act.TheVariants as act
 use Rattle.hc_event.specs.declared.act.Cause.{Cause}
 use Rattle.hc_event.specs.declared.act.Cause.TheVariants as cause
+use Rattle.hc_condition.specs.External.{is_external}
+use Rattle.hc_condition.specs.NotModified.{is_not_modified, fields_of_304, unconditioned}
 use Rattle.hc_head.specs.declared.message.MsgError.{MsgError}
 use Rattle.hc_head.specs.declared.message.MsgError.TheVariants as error
 use Rattle.hc_head.specs.declared.message.WireRequest.{WireRequest}
@@ -11,16 +13,33 @@ use Rattle.hc_head.specs.Responses.{has_no_body}
 use Rattle.hc_event.specs.declared.event.Request.{Request}
 use Rattle.hc_fields.specs.FirstValues.{has_field}
 use Rattle.hc_msg.specs.Writing.{response_text, chunk_text}
+use Rattle.hc_peers.specs.declared.reply.Asking.{Asking}
 use Rattle.hc_peers.specs.declared.reply.Form.{Form}
-use Rattle.hc_peers.specs.declared.reply.Form.TheVariants.{Headless, Plain, Chunks}
+use Rattle.hc_peers.specs.declared.reply.Form.TheVariants.{Headless, Plain, Chunks, Held}
 use Rattle.hc_peers.specs.declared.reply.Reply.{Reply}
 
 -- an answer to HEAD has no body (RFC 9110 section 9.3.2)
 abbrev pub is_head : Request → Bool
 is_head request = bytes_eq request.method (codes "HEAD")
 
-abbrev pub reply_to : WireRequest → Reply
-reply_to r = record { old = r.old; no_body = is_head r.request; form = Headless }
+-- a front answers the request by the copy on condition of which it was made (RFC 9110 section 13.1)
+abbrev pub is_fronted : Bool → Request → Bool
+is_fronted front request = front && is_external request
+
+-- what is asked of the cache: without that condition
+abbrev pub asked_of : Bool → WireRequest → Request
+asked_of front r = if is_fronted front r.request then unconditioned r.request else r.request
+
+abbrev pub reply_to : Bool → WireRequest → Reply
+reply_to front r = record {
+  old = r.old;
+  no_body = is_head r.request;
+  form = Headless;
+  copy = if is_fronted front r.request then Some r.request else None;
+}
+
+abbrev pub asking_of : Bool → WireRequest → Asking
+asking_of front r = record { request = asked_of front r; reply = reply_to front r }
 
 -- HEADS
 
@@ -30,6 +49,11 @@ abbrev pub form_of : Reply → ℕ → List (List ℕ × List ℕ) → Form
 form_of reply status fields =
     if has_field (codes "content-length") fields || reply.old || has_no_body reply.no_body status
     then Plain else Chunks
+
+-- the client holds a copy of what has this head (RFC 9110 section 13.2.2)
+abbrev pub is_held : Option Request → ℕ → List (List ℕ × List ℕ) → Bool
+is_held None status fields = false
+is_held (Some request) status fields = is_not_modified request status fields
 
 abbrev pub is_in_chunks : Form → Bool
 is_in_chunks Chunks = true
@@ -47,6 +71,7 @@ empty_answer status = head_text status ((codes "content-length", codes "0") ∷ 
 
 abbrev pub bytes_text : Form → List ℕ → List ℕ
 bytes_text Chunks bytes = chunk_text bytes
+bytes_text Held bytes = []
 bytes_text _ bytes = bytes
 
 -- the last chunk
@@ -69,10 +94,11 @@ abbrev pub failure_text : Form → Cause → List ℕ
 failure_text Headless cause = empty_answer (failure_status cause)
 failure_text _ cause = []
 
--- a failure behind the head is told by the close
+-- a failure behind the head of a body is told by the close
 abbrev pub is_cut_off : Form → Bool
-is_cut_off Headless = false
-is_cut_off _ = true
+is_cut_off Plain = true
+is_cut_off Chunks = true
+is_cut_off _ = false
 
 abbrev pub closes_at_failure : Reply → Bool
 closes_at_failure reply = reply.old || is_cut_off reply.form
@@ -82,7 +108,8 @@ closes_at_failure reply = reply.old || is_cut_off reply.form
 -- the bytes of an act
 abbrev pub rendering : Reply → Act → List ℕ
 rendering reply (act.Shown c r why status fields lo hi) =
-    head_text status fields (form_of reply status fields)
+    if is_held reply.copy status fields then head_text 304 (fields_of_304 fields) Plain
+    else head_text status fields (form_of reply status fields)
 rendering reply (act.Given c x at bytes) = bytes_text reply.form bytes
 rendering reply (act.Ended c) = end_text reply.form
 rendering reply (act.Failed c cause) = failure_text reply.form cause
@@ -90,7 +117,8 @@ rendering reply _ = []
 
 -- how far the answer is behind an act
 abbrev pub form_behind : Reply → Act → Form
-form_behind reply (act.Shown c r why status fields lo hi) = form_of reply status fields
+form_behind reply (act.Shown c r why status fields lo hi) =
+    if is_held reply.copy status fields then Held else form_of reply status fields
 form_behind reply _ = reply.form
 
 -- the answer is over behind an act

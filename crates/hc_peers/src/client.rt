@@ -1,15 +1,17 @@
 //! Connections of clients.
-ghost use Rattle.std.specs.Prelude.{◌≡◌, ℕ, [], true, Option, OnOk, OnErr};
+ghost use Rattle.std.specs.Prelude.{◌≡◌, ◌++◌, ℕ, [], true, Option, OnOk, OnErr};
 ghost use Rattle.hc_event.specs.declared.act.Act.TheVariants as act;
 ghost use Rattle.hc_event.specs.declared.act.Why.{Why};
+ghost use Rattle.hc_msg.specs.Writing.{chunk_text};
 ghost use Rattle.hc_peers.specs.Peers.{Reads, new_client, read_to, is_idle, is_ready, is_over, is_settled, asks, refused, answered, addressee};
 
 use crate::outbox::Outbox;
 use crate::queue::Queue;
-use crate::reply::{Form, Reply};
+use crate::reply::{Asking, Form, Reply};
 use crate::status::{error_answer, failure_answer};
+use hc_condition::fields_of_304;
 use hc_event::{Act, Cause, Response};
-use hc_head::{MsgError, WireRequest};
+use hc_head::MsgError;
 use hc_msg::{RequestReader, write_chunk_size, write_response_head};
 use hc_text::{Bytes, NoMemory};
 use std::alloc::Global;
@@ -56,6 +58,7 @@ impl Client {
                 old: false,
                 no_body: false,
                 form: Form::Headless,
+                copy: None,
             },
             unsent: Outbox::new(alloc),
             closing: false,
@@ -91,30 +94,38 @@ impl Client {
         self.unsent.is_empty() && !self.closing && self.reading == self.is_idle()
     }
 
-    /// Reads its next request of what came. After an error nothing of it is read any more.
-    pub(crate) fn read(&mut self) -> Result<Option<WireRequest>, MsgError>
-        ensures reads { Reads self.old self.new result }
+    /// What its next request asks, of what came. After an error nothing of it is read any more.
+    pub(crate) fn read(&mut self, alloc: Global, front: bool) -> Result<Option<Asking>, MsgError>
+        ensures reads { Reads front self.old self.new result }
         ensures others { self.new ≡ read_to self.new.reader self.new.input self.old }
         ensures err { OnErr result (self.new.input ≡ []) }
     {
-        match self.reader.take(self.input.rest()) {
-            Ok(taken) => {
-                self.input.skip(taken.used);
-                Ok(taken.got)
-            }
+        let taken = match self.reader.take(self.input.rest()) {
+            Ok(taken) => taken,
             Err(e) => {
                 self.input.clear();
-                Err(e)
+                return Err(e);
+            }
+        };
+        self.input.skip(taken.used);
+        let Some(wanted) = taken.got else {
+            return Ok(None);
+        };
+        match Asking::of(alloc, front, wanted) {
+            Ok(asking) => Ok(Some(asking)),
+            Err(NoMemory) => {
+                self.input.clear();
+                Err(MsgError::NoMemory)
             }
         }
     }
 
-    /// The consumer asks for this.
-    pub(crate) fn ask(&mut self, c: u64, request: &WireRequest)
-        ensures { self.new ≡ asks c request.now self.old }
+    /// The consumer asks for what this is the answer to.
+    pub(crate) fn ask(&mut self, c: u64, reply: Reply)
+        ensures { self.new ≡ asks c reply self.old }
     {
         self.consumer = Some(c);
-        self.reply = Reply::to(request);
+        self.reply = reply;
     }
 
     /// It is owed the error answer, and the close.
@@ -128,12 +139,21 @@ impl Client {
     }
 
     /// It is owed what the act says.
-    pub(crate) fn answer(&mut self, act: Act, text: &mut Vec<u8>) -> Result<(), NoMemory>
+    pub(crate) fn answer(
+        &mut self,
+        alloc: Global,
+        act: Act,
+        text: &mut Vec<u8>,
+    ) -> Result<(), NoMemory>
         ensures ok { OnOk result (self.new ≡ answered act self.old) }
         ensures err { OnErr result (self.new.consumer ≡ self.old.consumer) }
     {
         match act {
-            Act::Shown { status, fields, .. } => self.show(Response { status, fields }, text),
+            Act::Shown { status, fields, .. } => self.show(
+                alloc,
+                Response { status, fields },
+                text,
+            ),
             Act::Given { bytes, .. } => self.give(bytes, text),
             Act::Ended { .. } => self.end(),
             Act::Failed { cause, .. } => self.fail(cause),
@@ -141,15 +161,33 @@ impl Client {
         }
     }
 
-    /// The head of its answer.
-    fn show(&mut self, response: Response, text: &mut Vec<u8>) -> Result<(), NoMemory>
+    /// The head of its answer: 304 where it holds a copy (RFC 9110 section 15.4.5).
+    fn show(
+        &mut self,
+        alloc: Global,
+        response: Response,
+        text: &mut Vec<u8>,
+    ) -> Result<(), NoMemory>
         ensures ok { (c r : ℕ) (why : Why) (lo : ℕ) (hi : Option ℕ) → OnOk result (self.new
             ≡ answered (act.Shown c r why response.status response.fields lo hi) self.old) }
         ensures err { OnErr result (self.new.consumer ≡ self.old.consumer) }
     {
-        self.reply.form = self.reply.form_of(&response);
         text.clear();
-        write_response_head(&response, self.reply.form == Form::Chunks, text)?;
+        if self.reply.is_held(alloc, &response)? {
+            self.reply.form = Form::Held;
+            let fields = fields_of_304(&response.fields)?;
+            write_response_head(
+                &Response {
+                    status: 304,
+                    fields,
+                },
+                false,
+                text,
+            )?;
+        } else {
+            self.reply.form = self.reply.form_of(&response);
+            write_response_head(&response, self.reply.form == Form::Chunks, text)?;
+        }
         self.unsent.push(text)
     }
 
@@ -159,9 +197,19 @@ impl Client {
             (self.new ≡ answered (act.Given c x at bytes) self.old) }
         ensures err { OnErr result (self.new.consumer ≡ self.old.consumer) }
     {
-        if self.reply.form != Form::Chunks {
-            return self.unsent.hand(bytes);
+        match self.reply.form {
+            Form::Chunks => self.give_chunk(bytes, text),
+            Form::Held => Ok(()),
+            Form::Headless | Form::Plain => self.unsent.hand(bytes),
         }
+    }
+
+    /// Bytes of the body as a chunk (RFC 9112 section 7.1).
+    fn give_chunk(&mut self, bytes: Bytes, text: &mut Vec<u8>) -> Result<(), NoMemory>
+        ensures ok { OnOk result (self.new
+            ≡ record self.old { unsent = self.old.unsent ++ chunk_text bytes }) }
+        ensures err { OnErr result (self.new.consumer ≡ self.old.consumer) }
+    {
         text.clear();
         write_chunk_size(bytes.len(), text)?;
         self.unsent.push(text)?;

@@ -119,10 +119,11 @@ impl Clients {
 
     /// Reads the next request of the first client whose is to be read. If it asks for something, its
     /// live consumer is `c`; if it is refused, it is owed its error answer and the close.
-    pub fn hear_next(&mut self, c: u64) -> Result<NextRequest, NoMemory>
+    /// A front answers a request on condition of a copy: the cache is asked without the condition.
+    pub fn hear_next(&mut self, c: u64, front: bool) -> Result<NextRequest, NoMemory>
         requires { (k : ℕ) (client : Client) → client_of self.old k ≡ Some client
             → client.consumer ≢ Some c }
-        ensures { IfOk result (HearsNext c self.old self.new) }
+        ensures { IfOk result (HearsNext c front self.old self.new) }
     {
         let Some(k) = self.ready.pop_first() else {
             return Ok(NextRequest::Nobody);
@@ -130,15 +131,15 @@ impl Clients {
         let Some(client) = self.rows.get_mut(&k) else {
             unreachable!()
         };
-        match client.read() {
+        match client.read(self.alloc, front) {
             Ok(None) => Ok(NextRequest::Nothing),
-            Ok(Some(wanted)) => {
+            Ok(Some(asking)) => {
                 if let Err(refused) = list_live(&mut self.live, &mut self.touched, c, k) {
                     client.input.clear();
                     return Err(refused);
                 }
-                client.ask(c, &wanted);
-                Ok(NextRequest::Asks(k, wanted.request))
+                client.ask(c, asking.reply);
+                Ok(NextRequest::Asks(k, asking.request))
             }
             Err(e) => match e {
                 MsgError::NoMemory => Err(NoMemory),
@@ -193,7 +194,7 @@ impl Clients {
         let Some(client) = self.rows.get_mut(&k) else {
             unreachable!()
         };
-        client.answer(act, &mut self.text)?;
+        client.answer(self.alloc, act, &mut self.text)?;
         leave_live(&mut self.live, c, client);
         list_ready(&mut self.ready, k, client)
     }

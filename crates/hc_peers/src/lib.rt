@@ -16,7 +16,7 @@ pub use client::{Client, addressee};
 pub use clients::{Clients, NextRequest};
 pub use outbox::Outbox;
 pub use queue::Queue;
-pub use reply::{Form, Reply, is_head};
+pub use reply::{Asking, Form, Reply, is_head};
 pub use status::{error_answer, failure_answer};
 pub use upstream::Upstream;
 pub use upstreams::Upstreams;

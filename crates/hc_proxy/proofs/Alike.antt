@@ -18,16 +18,18 @@ module _ {B : Type 0} {g : Ghosts B} where
   -- THE CACHE
 
   pub cache_moves : (f : Frame) (x x' : loop.Proxy B g) (p : Proxy) → x'.cache ≡ x.cache → x'.record ≡ x.record → x'.now ≡ x.now → x'.starts ≡ x.starts →
+      x'.front ≡ x.front →
       HasCache f x p → HasCache f x' p
-  cache_moves f x x' p cache text now starts h = record {
-    contents = h.contents;
-    stands = subst (λ c. StandsFor c p.contents p.history) (sym cache) h.stands;
+  cache_moves f x x' p cache text now starts front h = record {
+    setting = h.setting;
+    stands = subst (λ c. StandsFor c p.setting.contents p.history) (sym cache) h.stands;
     same = h.same;
     limits = ap limits_in cache ∙ h.limits;
     now = now ∙ h.now;
     early = h.early;
     last = subst (λ c. last_moment c ≤ p.moment) (sym cache) h.last;
     starts = starts ∙ h.starts;
+    front = front ∙ h.front;
     last_start = h.last_start;
     text = h.text ∙ ap (λ r. f.written ++ text_of r) (sym text);
     recorded = ap last_of text ∙ h.recorded;
@@ -44,7 +46,7 @@ module _ {B : Type 0} {g : Ghosts B} where
   pub cache_with : (f : Frame) (x : loop.Proxy B g) (p : Proxy) (all : ℕ → Option Client) (ks : List ℕ) → HasCache f x p →
       HasCache f x (record p { client = all; accepted = ks })
   cache_with f x p all ks h = record {
-    contents = h.contents;
+    setting = h.setting;
     stands = h.stands;
     same = h.same;
     limits = h.limits;
@@ -52,6 +54,7 @@ module _ {B : Type 0} {g : Ghosts B} where
     early = h.early;
     last = h.last;
     starts = h.starts;
+    front = h.front;
     last_start = h.last_start;
     text = h.text;
     recorded = h.recorded;
@@ -69,7 +72,7 @@ module _ {B : Type 0} {g : Ghosts B} where
       AreHeaded (record p { upstream = rows }) → unread (record p { upstream = rows }) + bytes_received x.cache ≤ f.bytes → HasCache f x p →
       HasCache f x (record p { upstream = rows })
   cache_rows f x p rows unopened headed small h = record {
-    contents = h.contents;
+    setting = h.setting;
     stands = h.stands;
     same = h.same;
     limits = h.limits;
@@ -77,6 +80,7 @@ module _ {B : Type 0} {g : Ghosts B} where
     early = h.early;
     last = h.last;
     starts = h.starts;
+    front = h.front;
     last_start = h.last_start;
     text = h.text;
     recorded = h.recorded;

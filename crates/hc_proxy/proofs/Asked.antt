@@ -12,6 +12,8 @@ use Rattle.hc_msg.specs.{NextParts.{IsReadOn}, Reading.{Reading, Requests, Token
 use Rattle.hc_msg.proofs.Leading.{leads_on}
 use Rattle.hc_wire.specs.Logs.{Called}
 use Rattle.hc_wire.specs.declared.event.WireEvent.TheVariants as wire
+use Rattle.hc_peers.specs.Renderings.{asked_of, asking_of}
+use Rattle.hc_peers.specs.declared.reply.Asking.{Asking}
 use Rattle.hc_proxy.specs.{Asked.{got_by, got_from, is_at, started_by, starts_of, count_by, starts_in, IsNextStart, AreClients}, Connections.{is_dialled, place_from, exchange_of}, Invariants.{IsOfRequests}, Rows.{Client, with}, Starts.{read_to}}
 use Rattle.hc_proxy.proofs.NetworkKeeps.{is_of_exchange}
 
@@ -126,14 +128,16 @@ module _ (k : ℕ) where
   abbrev pub IsAccepted : List Called → List Called → Type 0
   IsAccepted calls behind = (before : List Called) × (call : Called) × (calls ≡ before ++ call ∷ behind) × (call.event ≡ wire.Accepted k)
 
-  pub record IsRead (ds : List (Option ℕ)) (calls : List Called) (client : Client) (requests : List Request) (asked : List WireRequest) : Type 0 where
+  pub record IsRead (front : Bool) (ds : List (Option ℕ)) (calls : List Called) (client : Client) (requests : List Request) (asked : List Asking) : Type 0 where
     pub behind : List Called
     pub accepted : IsAccepted calls behind
-    pub front : List ℕ
+    pub wires : List WireRequest
+    pub first : List ℕ
     pub rest : List ℕ
-    pub whole : front ++ (client.input ++ rest) ≡ got_from k behind
-    pub reads : Leads (heading Requests) front (map Asks asked) client.reading
-    pub are : requests ≡ map (λ (r : WireRequest). r.request) asked
+    pub whole : first ++ (client.input ++ rest) ≡ got_from k behind
+    pub reads : Leads (heading Requests) first (map Asks wires) client.reading
+    pub asked_are : asked ≡ map (asking_of front) wires
+    pub are : requests ≡ map (asked_of front) wires
     pub asking : IsOfRequests client.reading
     pub all : client.gone ≡ false → exchange_of ds k ≡ None → rest ≡ []
 
@@ -145,43 +149,47 @@ module _ (k : ℕ) where
   pub later : (calls behind : List Called) (call : Called) → IsAccepted calls behind → IsAccepted (more_calls calls call) (more_calls behind call)
   later calls behind call is = (is.0, is.1, ap (λ (cs : List Called). cs ++ call ∷ []) is.2 ∙ append_assoc is.0 (is.1 ∷ behind) (call ∷ []), is.3)
 
-  module _ (ds : List (Option ℕ)) (calls : List Called) (call : Called) where
+  module _ (front : Bool) (ds : List (Option ℕ)) (calls : List Called) (call : Called) where
     abbrev pub got : List ℕ
     got = got_by k call.event call.bytes
 
     -- bytes that the client doesn't have stand behind
-    pub passes : (client : Client) (requests : List Request) (asked : List WireRequest) → (client.gone ≡ false → exchange_of ds k ≡ None → got ≡ []) →
-        IsRead ds calls client requests asked → IsRead ds (more_calls calls call) client requests asked
+    pub passes : (client : Client) (requests : List Request) (asked : List Asking) → (client.gone ≡ false → exchange_of ds k ≡ None → got ≡ []) →
+        IsRead front ds calls client requests asked → IsRead front ds (more_calls calls call) client requests asked
     passes client requests asked none s = record {
       behind = more_calls s.behind call;
       accepted = later calls s.behind call s.accepted;
-      front = s.front;
+      wires = s.wires;
+      first = s.first;
       rest = s.rest ++ got;
       whole =
-          let one : s.front ++ (client.input ++ (s.rest ++ got)) ≡ (s.front ++ (client.input ++ s.rest)) ++ got =
-          ap (λ (xs : List ℕ). s.front ++ xs) (sym (append_assoc client.input s.rest got)) ∙ sym (append_assoc s.front (client.input ++ s.rest) got) in
+          let one : s.first ++ (client.input ++ (s.rest ++ got)) ≡ (s.first ++ (client.input ++ s.rest)) ++ got =
+          ap (λ (xs : List ℕ). s.first ++ xs) (sym (append_assoc client.input s.rest got)) ∙ sym (append_assoc s.first (client.input ++ s.rest) got) in
           one ∙ (ap (λ (xs : List ℕ). xs ++ got) s.whole ∙ sym (got_more k s.behind call));
       reads = s.reads;
+      asked_are = s.asked_are;
       are = s.are;
       asking = s.asking;
       all = λ here off. ap (λ (xs : List ℕ). xs ++ got) (s.all here off) ∙ none here off;
     }
 
     -- or wait
-    pub waits : (client : Client) (requests : List Request) (asked : List WireRequest) → client.gone ≡ false → exchange_of ds k ≡ None →
-        IsRead ds calls client requests asked → IsRead ds (more_calls calls call) (record client { input = client.input ++ got }) requests asked
+    pub waits : (client : Client) (requests : List Request) (asked : List Asking) → client.gone ≡ false → exchange_of ds k ≡ None →
+        IsRead front ds calls client requests asked → IsRead front ds (more_calls calls call) (record client { input = client.input ++ got }) requests asked
     waits client requests asked here off s = record {
       behind = more_calls s.behind call;
       accepted = later calls s.behind call s.accepted;
-      front = s.front;
+      wires = s.wires;
+      first = s.first;
       rest = [];
       whole =
           let none : s.rest ≡ [] = s.all here off in
-          let before : s.front ++ client.input ≡ got_from k s.behind =
-          ap (λ (xs : List ℕ). s.front ++ xs) (sym (append-nil client.input) ∙ ap (λ (xs : List ℕ). client.input ++ xs) (sym none)) ∙ s.whole in
-          ap (λ (xs : List ℕ). s.front ++ xs) (append-nil (client.input ++ got)) ∙ (sym (append_assoc s.front client.input got)
+          let before : s.first ++ client.input ≡ got_from k s.behind =
+          ap (λ (xs : List ℕ). s.first ++ xs) (sym (append-nil client.input) ∙ ap (λ (xs : List ℕ). client.input ++ xs) (sym none)) ∙ s.whole in
+          ap (λ (xs : List ℕ). s.first ++ xs) (append-nil (client.input ++ got)) ∙ (sym (append_assoc s.first client.input got)
           ∙ (ap (λ (xs : List ℕ). xs ++ got) before ∙ sym (got_more k s.behind call)));
       reads = s.reads;
+      asked_are = s.asked_are;
       are = s.are;
       asking = s.asking;
       all = λ h o. refl;
@@ -189,37 +197,41 @@ module _ (k : ℕ) where
 
   -- CHANGES
 
-  module _ (ds : List (Option ℕ)) (calls : List Called) where
+  module _ (front : Bool) (ds : List (Option ℕ)) (calls : List Called) where
     -- one that keeps what waits, where it is read, and who is gone
-    pub alike : (new old : Client) (requests : List Request) (asked : List WireRequest) → new.input ≡ old.input → new.reading ≡ old.reading →
-        (new.gone ≡ false → old.gone ≡ false) → IsRead ds calls old requests asked → IsRead ds calls new requests asked
+    pub alike : (new old : Client) (requests : List Request) (asked : List Asking) → new.input ≡ old.input → new.reading ≡ old.reading →
+        (new.gone ≡ false → old.gone ≡ false) → IsRead front ds calls old requests asked → IsRead front ds calls new requests asked
     alike new old requests asked input reading gone s = record {
       behind = s.behind;
       accepted = s.accepted;
-      front = s.front;
+      wires = s.wires;
+      first = s.first;
       rest = s.rest;
-      whole = ap (λ (xs : List ℕ). s.front ++ (xs ++ s.rest)) input ∙ s.whole;
-      reads = subst (λ (t : Reading). Leads (heading Requests) s.front (map Asks asked) t) (sym reading) s.reads;
+      whole = ap (λ (xs : List ℕ). s.first ++ (xs ++ s.rest)) input ∙ s.whole;
+      reads = subst (λ (t : Reading). Leads (heading Requests) s.first (map Asks s.wires) t) (sym reading) s.reads;
+      asked_are = s.asked_are;
       are = s.are;
       asking = subst IsOfRequests (sym reading) s.asking;
       all = λ here off. s.all (gone here) off;
     }
 
     -- bytes that ask for these were read
-    pub reads_on : (client : Client) (requests : List Request) (asked more : List WireRequest) (first rest : List ℕ) (t : Reading) → first ++
-        rest ≡ client.input → Leads client.reading first (map Asks more) t → IsOfRequests t
-        → IsRead ds calls client requests asked →
-        IsRead ds calls (read_to t rest client) (requests ++ map (λ (r : WireRequest). r.request) more) (asked ++ more)
-    reads_on client requests asked more first rest t is leads asking s = record {
+    pub reads_on : (client : Client) (requests : List Request) (asked : List Asking) (more : List WireRequest) (next rest : List ℕ) (t : Reading) → next ++
+        rest ≡ client.input → Leads client.reading next (map Asks more) t → IsOfRequests t
+        → IsRead front ds calls client requests asked →
+        IsRead front ds calls (read_to t rest client) (requests ++ map (asked_of front) more) (asked ++ map (asking_of front) more)
+    reads_on client requests asked more next rest t is leads asking s = record {
       behind = s.behind;
       accepted = s.accepted;
-      front = s.front ++ first;
+      wires = s.wires ++ more;
+      first = s.first ++ next;
       rest = s.rest;
-      whole = append_assoc s.front first (rest ++ s.rest)
-          ∙ (ap (λ (xs : List ℕ). s.front ++ xs) (sym (append_assoc first rest s.rest) ∙ ap (λ (xs : List ℕ). xs ++ s.rest) is) ∙ s.whole);
-      reads = subst (λ (ts : List Token). Leads (heading Requests) (s.front ++ first) ts t) (sym (map-append Asks asked more))
-          (leads_on (heading Requests) s.front first (map Asks asked) (map Asks more) client.reading t s.reads leads);
-      are = ap (λ (rs : List Request). rs ++ map (λ (r : WireRequest). r.request) more) s.are ∙ sym (map-append (λ (r : WireRequest). r.request) asked more);
+      whole = append_assoc s.first next (rest ++ s.rest)
+          ∙ (ap (λ (xs : List ℕ). s.first ++ xs) (sym (append_assoc next rest s.rest) ∙ ap (λ (xs : List ℕ). xs ++ s.rest) is) ∙ s.whole);
+      reads = subst (λ (ts : List Token). Leads (heading Requests) (s.first ++ next) ts t) (sym (map-append Asks s.wires more))
+          (leads_on (heading Requests) s.first next (map Asks s.wires) (map Asks more) client.reading t s.reads leads);
+      asked_are = ap (λ (rs : List Asking). rs ++ map (asking_of front) more) s.asked_are ∙ sym (map-append (asking_of front) s.wires more);
+      are = ap (λ (rs : List Request). rs ++ map (asked_of front) more) s.are ∙ sym (map-append (asked_of front) s.wires more);
       asking = asking;
       all = s.all;
     }
@@ -228,9 +240,9 @@ module _ (k : ℕ) where
     read_all s input t of (inl on) = on.0
     read_all s input t of (inr done) = absurd (subst IsOfRequests done.0 of)
 
-    pub all_read : (client : Client) (requests : List Request) (asked : List WireRequest) (t : Reading) → Leads client.reading client.input [] t →
-        IsOfRequests t → IsRead ds calls client requests asked → IsRead ds calls (read_to t [] client) requests asked
+    pub all_read : (client : Client) (requests : List Request) (asked : List Asking) (t : Reading) → Leads client.reading client.input [] t →
+        IsOfRequests t → IsRead front ds calls client requests asked → IsRead front ds calls (read_to t [] client) requests asked
     all_read client requests asked t leads of s =
-        subst (λ (rs : List Request). IsRead ds calls (read_to t [] client) rs asked) (append-nil requests)
-        (subst (IsRead ds calls (read_to t [] client) (requests ++ [])) (append-nil asked)
+        subst (λ (rs : List Request). IsRead front ds calls (read_to t [] client) rs asked) (append-nil requests)
+        (subst (IsRead front ds calls (read_to t [] client) (requests ++ [])) (append-nil asked)
         (reads_on client requests asked [] client.input [] t (append-nil client.input) leads of s))

@@ -7,7 +7,7 @@ use Rattle.std.{proofs.{Common.{◌≡◌, ◌≤◌, ◌⊎◌, inl, inr, ℕ, 
 use Rattle.hc_effects.proofs.Vocabulary.{Act, Event, is_open, Limits, act, event}
 use Rattle.hc_head.specs.declared.message.WireRequest.{WireRequest}
 use Rattle.hc_msg.specs.{Inputs.{Next, Waits, Reports, Brings, Ends, Fails, next_in}, Reading.{Failed, Token, Asks, Answers, Byte}}
-use Rattle.hc_peers.specs.Renderings.{rendering, form_behind, is_last, closes}
+use Rattle.hc_peers.specs.Renderings.{rendering, form_behind, is_last, closes, asked_of, reply_to}
 use Rattle.hc_wire.specs.{Logs.{Called}, declared.event.WireEvent.{WireEvent}}
 use Rattle.hc_wire.specs.declared.event.WireEvent.TheVariants as wire
 use Rattle.hc_proxy.specs.{Carrying.{answered, answers, carried_out, all_carried_out, carried, acts_in}, Connections.{taken_at, has_unsent, exchange_of}, Handling.{clients_here, client_comes, left, cancelled, leaves, client_sends, sends, ends, broke, handled_by, handled}, Invariants.{IsServed, AreServed, addressee}, Polls.{polled_all, each_polled, polled, may_be_polled, live_consumers}, Rows.{Client, Proxy, new_client, with_client}, Starts.{read_to, asks, with_holder, started, refused, hears_request, hears, hears_if, each_heard, is_ready, started_all}, Steps.{with_entry, stepped}}
@@ -152,10 +152,10 @@ module _ (limits : Limits) (call : Called) (k : ℕ) where
   module _ (z : ℕ) where
     starts_by : (request : WireRequest) (p : Proxy) → Before p (started limits z request p)
     starts_by request p =
-        let q = with_client z (asks (p.starts + 1) request) p in
-        both p q (started limits z request p) (keeps z (asks (p.starts + 1) request) p (λ c. refl))
+        let q = with_client z (asks (p.starts + 1) (reply_to p.setting.front request)) p in
+        both p q (started limits z request p) (keeps z (asks (p.starts + 1) (reply_to p.setting.front request)) p (λ c. refl))
         (both q (with_holder (p.starts + 1) z q) (started limits z request p) (same q (with_holder (p.starts + 1) z q) refl)
-        (stepped_same (event.Start (p.starts + 1) request.request) (with_holder (p.starts + 1) z q)))
+        (stepped_same (event.Start (p.starts + 1) (asked_of p.setting.front request)) (with_holder (p.starts + 1) z q)))
 
     token_by : (token : Token) (p : Proxy) → Before p (hears_request limits z token p)
     token_by (Asks request) p = starts_by request p

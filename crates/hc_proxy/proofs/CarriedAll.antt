@@ -140,7 +140,7 @@ module _ {B : Type 0} {g : Ghosts B} (t : Turn) (p : Proxy) (log : Log) where
     keeps : KeepsCarried r x' u.p'
     keeps = record {
       cache = record {
-        contents = u.keeps.cache.contents;
+        setting = u.keeps.cache.setting;
         stands = u.keeps.cache.stands;
         same = u.keeps.cache.same;
         limits = u.keeps.cache.limits;
@@ -148,6 +148,7 @@ module _ {B : Type 0} {g : Ghosts B} (t : Turn) (p : Proxy) (log : Log) where
         early = u.keeps.cache.early;
         last = u.keeps.cache.last;
         starts = u.keeps.cache.starts;
+        front = u.keeps.cache.front;
         last_start = u.keeps.cache.last_start;
         text = u.keeps.cache.text;
         recorded = u.keeps.cache.recorded;
@@ -190,7 +191,7 @@ module _ {B : Type 0} {g : Ghosts B} (t : Turn) (p : Proxy) (log : Log) where
       on_wire = record {
         follows = c.follows;
         stands = λ k. refl;
-        dialled = ap (dials_from t.frame.contents) (c.dials.dialled ∙ append-nil u.log'.dialled)
+        dialled = ap (dials_from t.frame.setting) (c.dials.dialled ∙ append-nil u.log'.dialled)
             ∙ (u.on_wire.dialled ∙ sym (ap (λ (ks : List ℕ). t.dialled ++ map Some ks) (append-nil u.more)));
         taken = λ k. by_taken k (u.on_wire.taken k);
       };
@@ -226,7 +227,7 @@ module _ {B : Type 0} {g : Ghosts B} (t : Turn) (p : Proxy) (log : Log) (reporte
   begun_keeps : KeepsPolled t x p → KeepsUnderway t (acts_in p.part) (record x { acts = y.acts }) p
   begun_keeps k = record {
     cache = record {
-      contents = k.keeps.cache.contents;
+      setting = k.keeps.cache.setting;
       stands = k.keeps.cache.stands;
       same = k.keeps.cache.same;
       limits = k.keeps.cache.limits;
@@ -234,6 +235,7 @@ module _ {B : Type 0} {g : Ghosts B} (t : Turn) (p : Proxy) (log : Log) (reporte
       early = k.keeps.cache.early;
       last = k.keeps.cache.last;
       starts = k.keeps.cache.starts;
+      front = k.keeps.cache.front;
       last_start = k.keeps.cache.last_start;
       text = k.keeps.cache.text;
       recorded = k.keeps.cache.recorded;

@@ -90,7 +90,7 @@ module _ {B : Type 0} {g : Ghosts B} (t : Turn) (x : loop.Proxy B g) (p : Proxy)
         let is : carried_out a p ≡ with_client s.0 (answered a) p = out ∙ ap (λ (o : Option ℕ). answers o a p) s.1.held in
         subst (λ (r : Proxy). KeepsUnderway t acts reported r) (sym is) (record {
           cache = cache_with t.frame reported p (with_client s.0 (answered a) p).client p.accepted
-              (cache_moves t.frame x reported p refl refl refl refl h.cache);
+              (cache_moves t.frame x reported p refl refl refl refl refl h.cache);
           moved = h.moved;
           clients = sent.clients_go a c to p s.0 s.1.holder (λ j. h.holders.held j c) t x cl reports h.clients;
           holders = subst (HasHolders acts) is (of_held acts (carried_out a p) (act_keeps a acts p found h.over (held_of (a ∷ acts) p h.holders)));
@@ -123,7 +123,7 @@ module _ {B : Type 0} {g : Ghosts B} (t : Turn) (x : loop.Proxy B g) (p : Proxy)
       KeepsUnderway t acts (record x { clients = cl }) (carried_out a p)
   unsaid_goes cl a same h is found origins plain shut =
       subst (λ (r : Proxy). KeepsUnderway t acts (record x { clients = cl }) r) (sym is) (record {
-        cache = cache_moves t.frame x (record x { clients = cl }) p refl refl refl refl h.cache;
+        cache = cache_moves t.frame x (record x { clients = cl }) p refl refl refl refl refl h.cache;
         moved = h.moved;
         clients = record {
           rows = λ k. subst (λ (o : Option peer.Client). IsClientAt (taken_at t.call k) o (p.client k)) (sym (same k)) (h.clients.rows k);
@@ -290,7 +290,7 @@ module _ {B : Type 0} {g : Ghosts B} (t : Turn) (x : loop.Proxy B g) (p : Proxy)
   pub ask_goes : (up : Upstreams) (z : ℕ) → Stays x.upstreams up → Marks (is_news x.upstreams) (is_news up) z (is_some (upstream_of x.upstreams z))
       → Marks (is_touched x.upstreams) (is_touched up) z true → KeepsUnderway t (act.Ask z ∷ acts) x p → KeepsUnderway t acts (record x { upstreams = up }) p
   ask_goes up z stays news touched h = record {
-    cache = cache_moves t.frame x (record x { upstreams = up }) p refl refl refl refl h.cache;
+    cache = cache_moves t.frame x (record x { upstreams = up }) p refl refl refl refl refl h.cache;
     moved = h.moved;
     clients = record { rows = h.clients.rows; order = h.clients.order; listed = h.clients.listed; few = h.clients.few };
     holders = of_held acts p

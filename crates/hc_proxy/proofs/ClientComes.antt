@@ -133,7 +133,7 @@ module _ {B : Type 0} {g : Ghosts B} (t : Turn) (x : loop.Proxy B g) (p : Proxy)
     refused_keeps : KeepsQuiet t v p
     refused_keeps = record {
       keeps = record {
-        cache = cache_moves t.frame x v p refl refl refl refl h.cache;
+        cache = cache_moves t.frame x v p refl refl refl refl refl h.cache;
         acts = h.acts;
         clients = record { rows = h.clients.rows; order = h.clients.order; listed = h.clients.listed; few = h.clients.few };
         consumers = h.consumers;
@@ -272,7 +272,7 @@ module _ {B : Type 0} {g : Ghosts B} (t : Turn) (x : loop.Proxy B g) (p : Proxy)
     come_keeps : KeepsQuiet t w q
     come_keeps = record {
       keeps = record {
-        cache = cache_moves t.frame x w q refl refl refl refl (cache_with t.frame x p q.client q.accepted h.cache);
+        cache = cache_moves t.frame x w q refl refl refl refl refl (cache_with t.frame x p q.client q.accepted h.cache);
         acts = h.acts;
         clients = come_clients;
         consumers = of_held q (comes_keeps (acts_in p.part) k p no_row (held_of p h.consumers));

@@ -29,7 +29,7 @@ module _ (limits : Limits) (h : History) (k : ℕ) (ds : List (Option ℕ)) wher
       → (new.gone ≡ false → old.gone ≡ false) → IsRow limits h k ds calls p (Some old) → IsRow limits h k ds calls p (Some new)
   kept_row calls p new old input reading owed reply consumer closing gone r = record {
     asked = r.asked;
-    read = alike k ds calls new old (starts_of p.holder k p.history) r.asked input reading gone r.read;
+    read = alike k p.setting.front ds calls new old (starts_of p.holder k p.history) r.asked input reading gone r.read;
     owes = owes_alike h (consumers_of p.holder k p.history) r.asked new old owed reply consumer closing reading r.owes;
     live = λ d is here. consumer ∙ r.live d is (gone here);
   }
@@ -103,7 +103,8 @@ module _ (limits : Limits) (h : History) (k : ℕ) (ds : List (Option ℕ)) wher
 
     read_row : (p : Proxy) (new old : Client) → new.owed ≡ old.owed → new.reply ≡ old.reply → new.consumer ≡ old.consumer → new.closing ≡ old.closing →
         new.reading ≡ old.reading → new.gone ≡ old.gone
-        → (r : IsRow limits h k ds calls p (Some old)) → IsRead k ds more new (starts_of p.holder k p.history) r.asked → IsRow limits h k ds more p (Some new)
+        → (r : IsRow limits h k ds calls p (Some old)) → IsRead k p.setting.front ds more new (starts_of p.holder k p.history) r.asked →
+        IsRow limits h k ds more p (Some new)
     read_row p new old owed reply consumer closing reading gone r read = record {
       asked = r.asked;
       read = read;
@@ -115,7 +116,7 @@ module _ (limits : Limits) (h : History) (k : ℕ) (ds : List (Option ℕ)) wher
     row_passes none p None row = record { none = row.none; nobody = row.nobody; unheld = row.unheld }
     row_passes none p (Some client) r =
         read_row p client client refl refl refl refl refl refl r
-        (passes k ds calls call client (starts_of p.holder k p.history) r.asked (λ here off. none off) r.read)
+        (passes k p.setting.front ds calls call client (starts_of p.holder k p.history) r.asked (λ here off. none off) r.read)
 
     all_pass : Misses → (p : Proxy) → Before p → Behind p
     all_pass none p s = record { all = s.all; row = row_passes none p (p.client k) s.row }
@@ -130,10 +131,12 @@ module _ (limits : Limits) (h : History) (k : ℕ) (ds : List (Option ℕ)) wher
           read = record {
             behind = [];
             accepted = (calls, call, refl, is ∙ ap (λ (n : ℕ). wire.Accepted n) at);
-            front = [];
+            wires = [];
+            first = [];
             rest = [];
             whole = refl;
             reads = (refl, refl);
+            asked_are = refl;
             are = r.none;
             asking = tt;
             all = λ here off. refl;
@@ -177,14 +180,14 @@ module _ (limits : Limits) (h : History) (k : ℕ) (ds : List (Option ℕ)) wher
         waits_on client r on gone =
             let same : k ≡ z = grind (arith, nat_tests) in
             read_row p (record client { input = client.input ++ call.bytes }) client refl refl refl refl refl refl r
-            (subst (λ (bytes : List ℕ). IsRead k ds more (record client { input = client.input ++ bytes }) requests r.asked) (got_is true on)
-            (waits k ds calls call client requests r.asked gone (ap (exchange_of ds) same ∙ off) r.read))
+            (subst (λ (bytes : List ℕ). IsRead k p.setting.front ds more (record client { input = client.input ++ bytes }) requests r.asked) (got_is true on)
+            (waits k p.setting.front ds calls call client requests r.asked gone (ap (exchange_of ds) same ∙ off) r.read))
 
         by_gone : (client : Client) → IsRow limits h k ds calls p (Some client) → nat_eq k z ≡ true → (b : Bool) → client.gone ≡ b →
             IsRow limits h k ds more p (Some (if b then client else record client { input = client.input ++ call.bytes }))
         by_gone client r on true gone =
             read_row p client client refl refl refl refl refl refl r
-            (passes k ds calls call client requests r.asked (λ here o. gone_never (sym gone ∙ here)) r.read)
+            (passes k p.setting.front ds calls call client requests r.asked (λ here o. gone_never (sym gone ∙ here)) r.read)
         by_gone client r on false gone = waits_on client r on gone
 
         by_row : nat_eq k z ≡ true → (o : Option Client) → IsRow limits h k ds calls p o → IsRow limits h k ds more p (option_map (client_sends call.bytes) o)

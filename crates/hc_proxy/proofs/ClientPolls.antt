@@ -7,11 +7,10 @@
 -- waited for.
 use Rattle.std.{proofs.{Common.{◌≡◌, ◌⊎◌, inl, inr, ◌≤◌, ◌<◌, ◌+◌, ℕ, List, [], ◌∷◌, ◌++◌, Bool, true, false, Option, Some, None, refl, ap, sym, ◌∙◌, subst, arith, append_assoc, append-nil}, lemmas.{Bool.Decides.{nat_tests}, List.Elements.{filter-append}}}, specs.Prelude.{◌&&◌, ◌||◌, not, nat_eq, filter, option_map, if◌then◌else◌}}
 use Rattle.hc_text.proofs.Basics.{some_inj as some_is}
-use Rattle.hc_effects.proofs.Vocabulary.{leaves_in, Act, Request, is_live, Contents, Entry, History, Tables, IsOwed, owed, Limits, event}
-use Rattle.hc_head.specs.declared.message.WireRequest.{WireRequest}
-use Rattle.hc_peers.specs.Renderings.{reply_to}
+use Rattle.hc_effects.proofs.Vocabulary.{leaves_in, Act, Request, is_live, Entry, History, Tables, IsOwed, owed, Limits, event}
+use Rattle.hc_peers.specs.declared.reply.Asking.{Asking}
 use Rattle.hc_wire.specs.Logs.{Called}
-use Rattle.hc_proxy.specs.{Asked.{is_at, starts_of, starts_in, AreClients}, Carrying.{acts_in, carried}, Connections.{has_unsent}, Invariants.{addressee}, Polls.{live_consumers, takes_more, may_be_polled, polled, each_polled, polled_all}, Rendered.{is_answer_to, answer_to, rendered, answers_to, consumers_of, error_answer}, Rows.{Client, Proxy}, Steps.{with_entry, stepped}}
+use Rattle.hc_proxy.specs.{Asked.{is_at, starts_of, starts_in, AreClients}, Carrying.{acts_in, carried}, Connections.{has_unsent}, Invariants.{addressee}, Polls.{live_consumers, takes_more, may_be_polled, polled, each_polled, polled_all}, Rendered.{is_answer_to, answer_to, rendered, answers_to, consumers_of, error_answer}, Rows.{Client, Proxy, Setting}, Steps.{with_entry, stepped}}
 use Rattle.hc_proxy.proofs.{Ascending.{lives_are}, Asked.{alike}, ClientSteps.{other_live, over_here, HasRow, IsRow, Holds, Follows, row_less}, ConsumersOf.{consumers_its}, FoundClients.{sent_reported, AreNotTo, quiet_not}, Later.{IsSame, carried_is_same}, OwedActs.{sent_is, reported_all, AreIts, AreFor, for_less, owes_past, owes_last, not_true, all_wait, IsKept, all_keep, all_rows}, Owings.{answers_more, is_number, answers_whom, all_alone, answer_alone, all_same, HasError, IsNew, HasLast, Owes, owes_by}, PolledAlone.{AreTo, polls_alone}, SkippedSteps.{among}, Stands.{Stands, StandsOn, law_of, owed_here, goes_on, stands_out}, StaysOver.{HasOver}, Turning.{carried_keeps, open_any}}
 
 -- POLLS, of tables before them
@@ -42,11 +41,11 @@ module _ (limits : Limits) (call : Called) (k : ℕ) (q : Proxy) where
     pub client : p.client ≡ q.client
     pub holder : p.holder ≡ q.holder
     pub starts : p.starts ≡ q.starts
-    pub contents : p.contents ≡ q.contents
+    pub setting : p.setting ≡ q.setting
     pub stands : Stands limits p
     pub over : HasOver p
     pub count : starts_in p.history ≡ starts_in q.history
-    pub clients : AreClients p.contents.last_consumer p.holder p.history
+    pub clients : AreClients p.setting.contents.last_consumer p.holder p.history
     pub requests : starts_of p.holder k p.history ≡ starts_of q.holder k q.history
     pub consumers : consumers_of p.holder k p.history ≡ consumers_of q.holder k q.history
     pub less : (d : ℕ) → is_live (p.tables.consumer d) ≡ true → is_live (q.tables.consumer d) ≡ true
@@ -65,7 +64,7 @@ module _ (limits : Limits) (call : Called) (k : ℕ) (q : Proxy) where
         client = s.client;
         holder = s.holder;
         starts = s.starts;
-        contents = s.contents;
+        setting = s.setting;
         stands = (goes_on limits (event.Poll c 16384) p s.stands).stands;
         over = over_here limits (event.Poll c 16384) p s.stands s.over;
         count = let was : starts_in p.history ≡ starts_in q.history = s.count in omega arith;
@@ -74,7 +73,7 @@ module _ (limits : Limits) (call : Called) (k : ℕ) (q : Proxy) where
         consumers = append-nil (consumers_of p.holder k p.history) ∙ s.consumers;
         less = λ d live. s.less d (other_live limits (event.Poll c 16384) p s.stands tt d live);
         acts = may_both (acts_in p.part) e.acts s.acts
-            (to_may c e.acts may (polls_alone limits p.contents p.history s.stands.begins s.stands.run e
+            (to_may c e.acts may (polls_alone limits p.setting.contents p.history s.stands.begins s.stands.run e
             (subst (λ (t : Tables). IsOwed limits t e) s.stands.same is) c 16384 refl));
       }
 
@@ -128,7 +127,7 @@ module _ (limits : Limits) (call : Called) (k : ℕ) (q : Proxy) where
           let here : client.gone ≡ false = takes_here client (ap (takes_more call k) (sym at) ∙ (ap (may_be_polled call q) (sym holds) ∙ m.1)) in
           (here, live d (m.0, holds) here)
 
-  module _ (h : History) (acts : List Act) (client : Client) (cs : List ℕ) (asked : List WireRequest) (its : AreIts q.holder k cs)
+  module _ (h : History) (acts : List Act) (client : Client) (cs : List ℕ) (asked : List Asking) (its : AreIts q.holder k cs)
       (for : AreFor q.holder k (IsFor client) acts) (o : Owes h cs asked client) where
     abbrev g : History
     g = all_alone acts h
@@ -144,15 +143,15 @@ module _ (limits : Limits) (call : Called) (k : ℕ) (q : Proxy) where
     last_for here l at =
         let firsts : List ℕ = l.ds ++ l.c ∷ [] in
         let none : error_answer client.reading ≡ [] = none_behind l.c at o.error in
-        let owed_is : client.owed ≡ answers_to l.qs l.ds h ++ rendered (reply_to l.r) (answer_to l.c h) =
+        let owed_is : client.owed ≡ answers_to l.qs l.ds h ++ rendered l.r.reply (answer_to l.c h) =
         o.owed_is
         ∙ (ap (λ (t : List ℕ). answers_to asked cs h ++ t) none
         ∙ (append-nil (answers_to asked cs h)
-        ∙ (ap (λ (rs : List WireRequest). answers_to rs cs h) l.asked_are
+        ∙ (ap (λ (rs : List Asking). answers_to rs cs h) l.asked_are
         ∙ (ap (λ (ns : List ℕ). answers_to (l.qs ++ l.r ∷ []) ns h) l.cs_are
         ∙ answers_more l.qs l.ds l.r l.c h l.sizes)))) in
         subst (λ (ns : List ℕ). Owes g ns asked (reported_all q.holder k acts client)) (sym l.cs_are)
-        (subst (λ (rs : List WireRequest). Owes g firsts rs (reported_all q.holder k acts client)) (sym l.asked_are)
+        (subst (λ (rs : List Asking). Owes g firsts rs (reported_all q.holder k acts client)) (sym l.asked_are)
         (owes_last q.holder k l.ds l.c l.qs l.r l.sizes l.below (subst (AreIts q.holder k) l.cs_are its) acts h client
         (for_less q.holder k (IsFor client) (λ d. d ≡ l.c) acts (λ d is. some_is d l.c (sym is.1 ∙ at)) for) here owed_is l.reply l.waits none))
 
@@ -184,8 +183,8 @@ answer_part d (e ∷ es) h =
 -- BETWEEN TURNS
 
 pub record Rested (limits : Limits) (k : ℕ) (ds : List (Option ℕ)) (calls : List Called) (p : Proxy) : Type 0 where
-  pub count : p.starts ≡ p.contents.last_consumer + starts_in p.history
-  pub clients : AreClients p.contents.last_consumer p.holder p.history
+  pub count : p.starts ≡ p.setting.contents.last_consumer + starts_in p.history
+  pub clients : AreClients p.setting.contents.last_consumer p.holder p.history
   pub stands : Stands limits p
   pub named : (d j : ℕ) → p.holder d ≡ Some j → d ≤ p.starts
   pub fresh : (d : ℕ) → p.starts < d → answer_to d p.history ≡ []
@@ -243,11 +242,11 @@ module _ (limits : Limits) (h : History) (k : ℕ) (ds : List (Option ℕ)) (cal
   holds d = (is_live (p.tables.consumer d) ≡ true) × (q.holder d ≡ Some k)
 
   row_now : (o : Option Client) → q.client k ≡ o → IsRow limits h k ds calls q o →
-      HasRow limits p.history k ds calls (option_map (reported_all q.holder k acts) o) requests cs holds
+      HasRow limits p.history k q.setting.front ds calls (option_map (reported_all q.holder k acts) o) requests cs holds
   row_now None at r = record { none = r.none; nobody = r.nobody; unheld = λ d is. r.unheld d (s.less d is.0, is.1) }
   row_now (Some client) at r = record {
     asked = r.asked;
-    read = alike k ds calls new client requests r.asked kept.input kept.reading (λ g. sym kept.gone ∙ g) r.read;
+    read = alike k q.setting.front ds calls new client requests r.asked kept.input kept.reading (λ g. sym kept.gone ∙ g) r.read;
     owes = owes_by p.history (all_alone acts h) cs r.asked new (all_same p.history (all_alone acts h) cs (λ c. answer_now c ∙ sym (answer_alone c acts h)))
         (owes_behind limits call k q h acts client cs r.asked (consumers_its q.holder k q.history) for r.owes);
     live = λ d is here. waits d is (sym kept.gone ∙ here);
@@ -279,18 +278,21 @@ module _ (limits : Limits) (h : History) (k : ℕ) (ds : List (Option ℕ)) (cal
   stands_now : Stands limits p'
   stands_now = (carried_keeps (λ x. Unit {0}) (StandsOn limits) (stands_out limits) p (open_any acts) s.stands).stands
 
+  same_setting : p'.setting ≡ q.setting
+  same_setting = same.setting ∙ s.setting
+
   pub carries_on : Rested limits k ds calls p'
   carries_on = record {
     count =
         let starts : p'.starts ≡ q.starts = same.starts ∙ s.starts in
-        let before : q.starts ≡ q.contents.last_consumer + starts_in q.history = f.all.count in
+        let before : q.starts ≡ q.setting.contents.last_consumer + starts_in q.history = f.all.count in
         let count : starts_in p'.history ≡ starts_in q.history = ap starts_in same.history ∙ s.count in
-        let first : p'.contents.last_consumer ≡ q.contents.last_consumer = ap (λ (x : Contents). x.last_consumer) (same.contents ∙ s.contents) in
+        let first : p'.setting.contents.last_consumer ≡ q.setting.contents.last_consumer = ap (λ (x : Setting). x.contents.last_consumer) same_setting in
         omega arith;
     clients =
-        subst (λ (x : Contents). AreClients x.last_consumer p'.holder p'.history) (sym same.contents)
-        (subst (λ (x : ℕ → Option ℕ). AreClients p.contents.last_consumer x p'.history) (sym same.holder)
-        (subst (AreClients p.contents.last_consumer p.holder) (sym same.history) s.clients));
+        subst (λ (x : Setting). AreClients x.contents.last_consumer p'.holder p'.history) (sym same.setting)
+        (subst (λ (x : ℕ → Option ℕ). AreClients p.setting.contents.last_consumer x p'.history) (sym same.holder)
+        (subst (AreClients p.setting.contents.last_consumer p.holder) (sym same.history) s.clients));
     stands = stands_now;
     named = λ d j at.
         let le : d ≤ q.starts = f.all.named d j (sym (ap (λ (x : ℕ → Option ℕ). x d) (same.holder ∙ s.holder)) ∙ at) in
@@ -300,14 +302,17 @@ module _ (limits : Limits) (h : History) (k : ℕ) (ds : List (Option ℕ)) (cal
         let new : q.starts < d = omega arith in
         ap (answer_to d) same.history ∙
         (answer_now d ∙ (ap (λ (xs : List Act). xs ++ filter (is_answer_to d) acts) (f.all.fresh d new) ∙ none_new d new acts s.acts));
-    row = subst (λ (x : History). HasRow limits x k ds calls (p'.client k) (starts_of p'.holder k p'.history) (consumers_of p'.holder k p'.history)
-        (Holds limits [] k p')) (sym same.history)
-        (row_less limits p.history k ds calls (p'.client k) requests (starts_of p'.holder k p'.history) cs (consumers_of p'.holder k p'.history) holds
+    row = subst (λ (x : Setting). HasRow limits p'.history k x.front ds calls (p'.client k) (starts_of p'.holder k p'.history)
+        (consumers_of p'.holder k p'.history) (Holds limits [] k p')) (sym same_setting)
+        (subst (λ (x : History). HasRow limits x k q.setting.front ds calls (p'.client k) (starts_of p'.holder k p'.history)
+        (consumers_of p'.holder k p'.history) (Holds limits [] k p')) (sym same.history)
+        (row_less limits p.history k q.setting.front ds calls (p'.client k) requests (starts_of p'.holder k p'.history) cs (consumers_of p'.holder k p'.history) holds
         (Holds limits [] k p')
         (ap (λ (x : ℕ → Option ℕ). starts_of x k p'.history) same.holder ∙ (ap (starts_of p.holder k) same.history ∙ s.requests))
         (ap (λ (x : ℕ → Option ℕ). consumers_of x k p'.history) same.holder ∙ (ap (consumers_of p.holder k) same.history ∙ s.consumers))
         (λ d is. (ap (λ (t : Tables). is_live (t.consumer d)) (sym same.tables) ∙ is.0, sym (ap (λ (x : ℕ → Option ℕ). x d) (same.holder ∙ s.holder)) ∙ is.1))
-        (subst (λ (o : Option Client). HasRow limits p.history k ds calls o requests cs holds) (sym rows_are) (row_now (q.client k) refl f.row)));
+        (subst (λ (o : Option Client). HasRow limits p.history k q.setting.front ds calls o requests cs holds) (sym rows_are)
+        (row_now (q.client k) refl f.row))));
   }
 
 -- BEFORE THE POLLS, AND BEHIND THEM
@@ -321,7 +326,7 @@ polls_on limits h k ds calls call q f =
       client = refl;
       holder = refl;
       starts = refl;
-      contents = refl;
+      setting = refl;
       stands = f.all.stands;
       over = f.all.over;
       count = refl;

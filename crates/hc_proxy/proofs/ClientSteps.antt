@@ -13,6 +13,8 @@ use Rattle.hc_laws.proofs.LiveAfter.{Starts, was_live}
 use Rattle.hc_msg.specs.{Inputs.{Next, Waits, Reports, Brings, Ends, Fails, next_in}, NextParts.{StandsNext}, Reading.{Reading, Heading, Requests, Failed, Token, Asks, Answers, Byte}}
 use Rattle.hc_msg.proofs.{Leading.{reports_leads}, NextParts.{stands_next}}
 use Rattle.hc_wire.specs.Logs.{Called}
+use Rattle.hc_peers.specs.Renderings.{asked_of, reply_to, asking_of}
+use Rattle.hc_peers.specs.declared.reply.Asking.{Asking}
 use Rattle.hc_proxy.specs.{Asked.{is_at, started_by, starts_of, count_by, starts_in, AreClients}, Carrying.{acts_in}, Handling.{clients_here}, Rendered.{answer_to, consumer_by, consumers_of, error_answer}, Rows.{Client, Upstream, Proxy, with, with_client}, Starts.{read_to, asks, with_holder, started, refused, hears_request, hears, hears_if, is_ready, each_heard, started_all}, Steps.{with_entry, stepped}, Waiting.{is_poll}}
 use Rattle.hc_proxy.proofs.{Asked.{IsOther, other_starts, other_count, other_next, starts_kept, clients_kept, IsRead, alike, reads_on, read_all, all_read}, ConsumersOf.{other_consumers, consumers_kept, consumers_below}, NextAsks.{IsHead, of_head, IsNextAsked, next_asks, ready_idle}, Owings.{Owes, owes_read, owes_refused, owes_asks}, QuietActs.{AreQuiet, quiet_both, is_quiet_entry}, Stands.{Stands, law_of, owed_here, goes_on}, StaysOver.{HasOver, over_keeps}}
 
@@ -61,10 +63,10 @@ module _ (limits : Limits) (h : History) (k : ℕ) where
   abbrev pub Holds : Proxy → ℕ → Type 0
   Holds p d = (is_live (p.tables.consumer d) ≡ true) × (p.holder d ≡ Some k)
 
-  pub record IsFollowed (ds : List (Option ℕ)) (calls : List Called) (client : Client) (requests : List Request) (cs : List ℕ) (holds : ℕ → Type 0) : Type
-      0 where
-    pub asked : List WireRequest
-    pub read : IsRead k ds calls client requests asked
+  pub record IsFollowed (front : Bool) (ds : List (Option ℕ)) (calls : List Called) (client : Client) (requests : List Request) (cs : List ℕ)
+      (holds : ℕ → Type 0) : Type 0 where
+    pub asked : List Asking
+    pub read : IsRead k front ds calls client requests asked
     pub owes : Owes h cs asked client
     pub live : (d : ℕ) → holds d → client.gone ≡ false → client.consumer ≡ Some d
 
@@ -73,19 +75,19 @@ module _ (limits : Limits) (h : History) (k : ℕ) where
     pub nobody : cs ≡ []
     pub unheld : (d : ℕ) → holds d → ⊥
 
-  abbrev pub HasRow : List (Option ℕ) → List Called → Option Client → List Request → List ℕ → (ℕ → Type 0) → Type 0
-  HasRow ds calls None requests cs holds = IsAbsent requests cs holds
-  HasRow ds calls (Some client) requests cs holds = IsFollowed ds calls client requests cs holds
+  abbrev pub HasRow : Bool → List (Option ℕ) → List Called → Option Client → List Request → List ℕ → (ℕ → Type 0) → Type 0
+  HasRow front ds calls None requests cs holds = IsAbsent requests cs holds
+  HasRow front ds calls (Some client) requests cs holds = IsFollowed front ds calls client requests cs holds
 
   -- this is its row, by who was started
   abbrev pub IsRow : List (Option ℕ) → List Called → Proxy → Option Client → Type 0
-  IsRow ds calls p o = HasRow ds calls o (starts_of p.holder k p.history) (consumers_of p.holder k p.history) (Holds p)
+  IsRow ds calls p o = HasRow p.setting.front ds calls o (starts_of p.holder k p.history) (consumers_of p.holder k p.history) (Holds p)
 
   -- ALL OF THEM, before the polls
 
   pub record Stays (p : Proxy) : Type 0 where
-    pub count : p.starts ≡ p.contents.last_consumer + starts_in p.history
-    pub clients : AreClients p.contents.last_consumer p.holder p.history
+    pub count : p.starts ≡ p.setting.contents.last_consumer + starts_in p.history
+    pub clients : AreClients p.setting.contents.last_consumer p.holder p.history
     pub stands : Stands limits p
     pub named : (d j : ℕ) → p.holder d ≡ Some j → d ≤ p.starts
     pub fresh : (d : ℕ) → p.starts < d → answer_to d h ≡ []
@@ -109,14 +111,14 @@ module _ (limits : Limits) (h : History) (k : ℕ) where
     quiet = a.quiet;
   }
 
-  pub row_less : (ds : List (Option ℕ)) (calls : List Called) (o : Option Client) (requests requests' : List Request) (cs cs' : List ℕ)
+  pub row_less : (front : Bool) (ds : List (Option ℕ)) (calls : List Called) (o : Option Client) (requests requests' : List Request) (cs cs' : List ℕ)
       (holds holds' : ℕ → Type 0) → requests' ≡ requests → cs' ≡ cs → ((d : ℕ) → holds' d → holds d)
-      → HasRow ds calls o requests cs holds → HasRow ds calls o requests' cs' holds'
-  row_less ds calls None requests requests' cs cs' holds holds' same these less r =
+      → HasRow front ds calls o requests cs holds → HasRow front ds calls o requests' cs' holds'
+  row_less front ds calls None requests requests' cs cs' holds holds' same these less r =
       record { none = same ∙ r.none; nobody = these ∙ r.nobody; unheld = λ d is. r.unheld d (less d is) }
-  row_less ds calls (Some client) requests requests' cs cs' holds holds' same these less r = record {
+  row_less front ds calls (Some client) requests requests' cs cs' holds holds' same these less r = record {
     asked = r.asked;
-    read = subst (λ (rs : List Request). IsRead k ds calls client rs r.asked) (sym same) r.read;
+    read = subst (λ (rs : List Request). IsRead k front ds calls client rs r.asked) (sym same) r.read;
     owes = subst (λ (ns : List ℕ). Owes h ns r.asked client) (sym these) r.owes;
     live = λ d is here. r.live d (less d is) here;
   }
@@ -137,9 +139,9 @@ module _ (limits : Limits) (h : History) (k : ℕ) where
         let a : Stays p = s.all in
         record {
           all = record {
-            count = let none : count_by ev ≡ 0 = other_count ev off in let is : p.starts ≡ p.contents.last_consumer + starts_in p.history = a.count in
+            count = let none : count_by ev ≡ 0 = other_count ev off in let is : p.starts ≡ p.setting.contents.last_consumer + starts_in p.history = a.count in
                 omega arith;
-            clients = (other_next p.holder (p.contents.last_consumer + starts_in p.history) ev off, a.clients);
+            clients = (other_next p.holder (p.setting.contents.last_consumer + starts_in p.history) ev off, a.clients);
             stands = (goes_on limits ev p a.stands).stands;
             named = a.named;
             fresh = a.fresh;
@@ -147,7 +149,7 @@ module _ (limits : Limits) (h : History) (k : ℕ) where
             quiet = quiet_here limits ev p a.stands quiet a.quiet;
           };
           row =
-              row_less ds calls (p.client k) (starts_of p.holder k p.history) (starts_of p.holder k p.history ++ started_by p.holder k ev)
+              row_less p.setting.front ds calls (p.client k) (starts_of p.holder k p.history) (starts_of p.holder k p.history ++ started_by p.holder k ev)
               (consumers_of p.holder k p.history) (consumers_of p.holder k p.history ++ consumer_by p.holder k ev)
               (Holds p) (Holds (stepped limits ev p))
               (ap (λ (xs : List Request). starts_of p.holder k p.history ++ xs) (other_starts p.holder k ev off) ∙ append-nil (starts_of p.holder k p.history))
@@ -175,8 +177,8 @@ module _ (limits : Limits) (h : History) (k : ℕ) where
       itself : with c z p.holder c ≡ Some z
       itself = let same : nat_eq c c ≡ true = grind (arith, nat_tests) in rw same refl
 
-      lt : p.contents.last_consumer + starts_in p.history < c
-      lt = let is : p.starts ≡ p.contents.last_consumer + starts_in p.history = a.count in omega arith
+      lt : p.setting.contents.last_consumer + starts_in p.history < c
+      lt = let is : p.starts ≡ p.setting.contents.last_consumer + starts_in p.history = a.count in omega arith
 
       named_on : (d j : ℕ) → with c z p.holder d ≡ Some j → d ≤ c
       named_on d j is = by_test (nat_eq d c) refl is
@@ -208,16 +210,20 @@ module _ (limits : Limits) (h : History) (k : ℕ) where
               inr (grind (arith, nat_tests), grind (arith, nat_tests))
           by_test false off at = inl (live_before d off is.0, at)
 
-      pub start_on : HasRow ds calls (p.client k) (starts_of p.holder k p.history ++ (if nat_eq k z then request ∷ [] else []))
+      pub start_on : HasRow p.setting.front ds calls (p.client k) (starts_of p.holder k p.history ++ (if nat_eq k z then request ∷ [] else []))
           (consumers_of p.holder k p.history ++ (if nat_eq k z then c ∷ [] else [])) (HoldsOr p z)
           → S (stepped limits (event.Start c request) held)
       unfolding with_entry owed
       start_on row = record {
         all = record {
-          count = let is : p.starts ≡ p.contents.last_consumer + starts_in p.history = a.count in omega arith;
+          count = let is : p.starts ≡ p.setting.contents.last_consumer + starts_in p.history = a.count in omega arith;
           clients = (
-            (let is : p.starts ≡ p.contents.last_consumer + starts_in p.history = a.count in omega arith, subst (λ (o : Option ℕ). IsSome o) (sym itself) refl),
-            clients_kept p.holder c z p.contents.last_consumer p.history a.clients lt,
+            (
+              let is : p.starts ≡ p.setting.contents.last_consumer + starts_in p.history = a.count in omega arith,
+              subst (λ (o : Option ℕ). IsSome o)
+                  (sym itself) refl,
+            ),
+            clients_kept p.holder c z p.setting.contents.last_consumer p.history a.clients lt,
           );
           stands = (goes_on limits (event.Start c request) held held_stands).stands;
           named = named_on;
@@ -226,16 +232,17 @@ module _ (limits : Limits) (h : History) (k : ℕ) where
           quiet = quiet_here limits (event.Start c request) held held_stands refl a.quiet;
         };
         row =
-            row_less ds calls (p.client k) (starts_of p.holder k p.history ++ (if nat_eq k z then request ∷ [] else []))
+            row_less p.setting.front ds calls (p.client k) (starts_of p.holder k p.history ++ (if nat_eq k z then request ∷ [] else []))
             (starts_of (with c z p.holder) k p.history ++ (if is_at k (with c z p.holder c) then request ∷ [] else []))
             (consumers_of p.holder k p.history ++ (if nat_eq k z then c ∷ [] else []))
             (consumers_of (with c z p.holder) k p.history ++ (if is_at k (with c z p.holder c) then c ∷ [] else []))
             (HoldsOr p z) (Holds (stepped limits (event.Start c request) held))
             (ap (λ (o : Option ℕ). starts_of (with c z p.holder) k p.history ++ (if is_at k o then request ∷ [] else [])) itself
             ∙ ap (λ (xs : List Request). xs ++ (if nat_eq k z then request ∷ [] else []))
-            (starts_kept p.holder c z p.contents.last_consumer k p.history a.clients lt))
+            (starts_kept p.holder c z p.setting.contents.last_consumer k p.history a.clients lt))
             (ap (λ (o : Option ℕ). consumers_of (with c z p.holder) k p.history ++ (if is_at k o then c ∷ [] else [])) itself
-            ∙ ap (λ (xs : List ℕ). xs ++ (if nat_eq k z then c ∷ [] else [])) (consumers_kept p.holder c z p.contents.last_consumer k p.history a.clients lt))
+            ∙ ap (λ (xs : List ℕ). xs ++ (if nat_eq k z then c ∷ [] else []))
+            (consumers_kept p.holder c z p.setting.contents.last_consumer k p.history a.clients lt))
             holds_less row;
       }
 
@@ -264,12 +271,14 @@ module _ (limits : Limits) (h : History) (k : ℕ) where
 
       starts_off : (request : WireRequest) (p : Proxy) → S p → S (started limits z request p)
       starts_off request p s =
-          let q : Proxy = with_client z (asks (p.starts + 1) request) p in
-          let t : S q = change_off (asks (p.starts + 1) request) p s in
-          let none : (if nat_eq k z then request.request ∷ [] else []) ≡ [] = rw off refl in
+          let q : Proxy = with_client z (asks (p.starts + 1) (reply_to p.setting.front request)) p in
+          let wanted : Request = asked_of p.setting.front request in
+          let t : S q = change_off (asks (p.starts + 1) (reply_to p.setting.front request)) p s in
+          let none : (if nat_eq k z then wanted ∷ [] else []) ≡ [] = rw off refl in
           let nobody : (if nat_eq k z then (p.starts + 1) ∷ [] else []) ≡ [] = rw off refl in
-          start_on z request.request q t.all
-          (row_less ds calls (q.client k) (starts_of p.holder k p.history) (starts_of p.holder k p.history ++ (if nat_eq k z then request.request ∷ [] else []))
+          start_on z wanted q t.all
+          (row_less p.setting.front ds calls (q.client k) (starts_of p.holder k p.history)
+          (starts_of p.holder k p.history ++ (if nat_eq k z then wanted ∷ [] else []))
           (consumers_of p.holder k p.history) (consumers_of p.holder k p.history ++ (if nat_eq k z then (p.starts + 1) ∷ [] else []))
           (Holds p) (HoldsOr p z)
           (ap (λ (xs : List Request). starts_of p.holder k p.history ++ xs) none ∙ append-nil (starts_of p.holder k p.history))
@@ -308,26 +317,30 @@ module _ (limits : Limits) (h : History) (k : ℕ) where
           → StandsNext 1 client.reading client.input (Reports (Asks request) t rest) → IsNextAsked (Reports (Asks request) t rest) →
           IsRow ds calls p (Some client) → Stays p → S (hears limits z (Reports (Asks request) t rest) p)
       asks_here request t rest p client at idle open_still next asked r a =
-          start_on z request.request q (put_all p.accepted q.client p.upstream p a)
-          (subst (λ (o : Option Client). HasRow ds calls o (requests ++ (if nat_eq k z then request.request ∷ [] else []))
+          start_on z wanted q (put_all p.accepted q.client p.upstream p a)
+          (subst (λ (o : Option Client). HasRow p.setting.front ds calls o (requests ++ (if nat_eq k z then wanted ∷ [] else []))
           (cs ++ (if nat_eq k z then c ∷ [] else [])) (HoldsOr p z)) (sym row)
-          (row_less ds calls (Some new) (requests ++ request.request ∷ []) (requests ++ (if nat_eq k z then request.request ∷ [] else [])) (cs ++ c ∷ [])
+          (row_less p.setting.front ds calls (Some new) (requests ++ wanted ∷ []) (requests ++ (if nat_eq k z then wanted ∷ [] else [])) (cs ++ c ∷ [])
           (cs ++ (if nat_eq k z then c ∷ [] else [])) (HoldsOr p z) (HoldsOr p z)
           (ap (λ (xs : List Request). requests ++ xs) one) (ap (λ (xs : List ℕ). cs ++ xs) (rw on refl)) (λ d is. is)
           (record {
-            asked = r.asked ++ request ∷ [];
-            read = alike k ds calls new (read_to t rest client) (requests ++ request.request ∷ []) (r.asked ++ request ∷ []) refl refl (λ g. g)
-                (reads_on k ds calls client requests r.asked (request ∷ []) next.front rest t next.whole
+            asked = r.asked ++ asking_of p.setting.front request ∷ [];
+            read = alike k p.setting.front ds calls new (read_to t rest client) (requests ++ wanted ∷ [])
+                (r.asked ++ asking_of p.setting.front request ∷ []) refl refl (λ g. g)
+                (reads_on k p.setting.front ds calls client requests r.asked (request ∷ []) next.front rest t next.whole
                 (reports_leads client.reading next.front (Asks request) t next.reports) (of_head t asked) r.read);
-            owes = owes_asks h cs r.asked (read_to t rest client) c request open_still (a.fresh c (omega arith))
-                (consumers_below p.holder k p.contents.last_consumer c p.history a.clients
-                (let is : p.starts ≡ p.contents.last_consumer + starts_in p.history = a.count in omega arith))
+            owes = owes_asks h cs r.asked (read_to t rest client) c (asking_of p.setting.front request) open_still (a.fresh c (omega arith))
+                (consumers_below p.holder k p.setting.contents.last_consumer c p.history a.clients
+                (let is : p.starts ≡ p.setting.contents.last_consumer + starts_in p.history = a.count in omega arith))
                 (owes_read h cs r.asked client t rest open_still (no_error t asked) r.owes);
             live = live_now;
           })))
         where
           c : ℕ
           c = p.starts + 1
+
+          wanted : Request
+          wanted = asked_of p.setting.front request
 
           requests : List Request
           requests = starts_of p.holder k p.history
@@ -336,15 +349,15 @@ module _ (limits : Limits) (h : History) (k : ℕ) where
           cs = consumers_of p.holder k p.history
 
           new : Client
-          new = asks c request (read_to t rest client)
+          new = asks c (reply_to p.setting.front request) (read_to t rest client)
 
           q : Proxy
-          q = with_client z (asks c request) (with_client z (read_to t rest) p)
+          q = with_client z (asks c (reply_to p.setting.front request)) (with_client z (read_to t rest) p)
 
           row : q.client k ≡ Some new
-          row = here (asks c request) (with_client z (read_to t rest) p) (read_to t rest client) (here (read_to t rest) p client at)
+          row = here (asks c (reply_to p.setting.front request)) (with_client z (read_to t rest) p) (read_to t rest client) (here (read_to t rest) p client at)
 
-          one : (if nat_eq k z then request.request ∷ [] else []) ≡ request.request ∷ []
+          one : (if nat_eq k z then wanted ∷ [] else []) ≡ wanted ∷ []
           one = rw on refl
 
           live_now : (d : ℕ) → HoldsOr p z d → client.gone ≡ false → Some c ≡ Some d
@@ -356,8 +369,8 @@ module _ (limits : Limits) (h : History) (k : ℕ) where
       hears_here (Waits t) p client at idle open_still next asked r s =
           put_here (read_to t []) p client at s.all (record {
             asked = r.asked;
-            read = all_read k ds calls client (starts_of p.holder k p.history) r.asked t
-                (read_all k ds calls client.reading client.input t r.read.asking next) (of_head t asked) r.read;
+            read = all_read k p.setting.front ds calls client (starts_of p.holder k p.history) r.asked t
+                (read_all k p.setting.front ds calls client.reading client.input t r.read.asking next) (of_head t asked) r.read;
             owes = owes_read h (consumers_of p.holder k p.history) r.asked client t [] open_still (no_error t asked) r.owes;
             live = r.live;
           })
@@ -374,8 +387,8 @@ module _ (limits : Limits) (h : History) (k : ℕ) where
           put_here (refused e) (with_client z (read_to (Failed e) []) p) failed (here (read_to (Failed e) []) p client at)
           (put_all p.accepted (with_client z (read_to (Failed e) []) p).client p.upstream p s.all) (record {
             asked = r.asked;
-            read = alike k ds calls (refused e failed) failed requests r.asked refl refl (λ g. g)
-                (all_read k ds calls client requests r.asked (Failed e) next tt r.read);
+            read = alike k p.setting.front ds calls (refused e failed) failed requests r.asked refl refl (λ g. g)
+                (all_read k p.setting.front ds calls client requests r.asked (Failed e) next tt r.read);
             owes = owes_refused h cs r.asked client e [] open_still idle r.owes;
             live = r.live;
           })

@@ -6,9 +6,10 @@
 -- that its consumers were started for just these, and that it is owed the answers to them, and an error answer behind
 -- them where the reading failed.
 use Rattle.std.proofs.Common.{◌≡◌, ℕ, List, [], ◌∷◌, ◌++◌, false, true, Option, Some, None, refl, ap, sym, ◌∙◌, subst, arith, append_assoc, append-nil}
-use Rattle.hc_effects.proofs.Vocabulary.{Request, Contents, may_begin, Entry, Limits}
+use Rattle.hc_effects.proofs.Vocabulary.{Request, may_begin, Entry, Limits}
 use Rattle.hc_wire.specs.Logs.{Called, Log}
-use Rattle.hc_proxy.specs.{Asked.{got_from, starts_of, HasAsked, IsAsked, nothing, since, AreClients, StartsAreAsked}, Connections.{dials_from, exchange_of}, Handling.{begun, handled}, Network.{heard}, Rendered.{IsAnswered, AnswersAreOwed}, Rows.{Client, Proxy, unused}, Starts.{started_all}, Turns.{so_far, happened, turned, turned_by, behind_all}}
+use Rattle.hc_peers.specs.declared.reply.Asking.{Asking}
+use Rattle.hc_proxy.specs.{Asked.{got_from, starts_of, HasAsked, IsAsked, nothing, since, AreClients, StartsAreAsked}, Connections.{dials_from, exchange_of}, Handling.{begun, handled}, Network.{heard}, Rendered.{answers_to, consumers_of, error_answer, IsAnswered, AnswersAreOwed}, Rows.{Client, Proxy, unused, Setting}, Starts.{started_all}, Turns.{so_far, happened, turned, turned_by, behind_all}}
 use Rattle.hc_proxy.proofs.{Asked.{more_calls, place_shorter, IsRead}, ClientEvents.{seen_row, before_polls}, ClientPolls.{Rested, polls_on, carries_on}, ClientSteps.{IsRow, Follows, row_on}, Later.{carried_is_same}, Parts.{turn_part}, Stands.{begins_turn, turn_goes, unused_stands, contents_stay}}
 
 -- A TURN
@@ -56,14 +57,16 @@ module _ (limits : Limits) (k : ℕ) where
         record { count = s.count; clients = s.clients; stands = s.stands; named = s.named; fresh = s.fresh; row = by_row (p.client k) s.row }
       where
         read_on : (client : Client) (requests : List Request) (r : IsRow limits p.history k ds calls p (Some client)) →
-            IsRead k ds calls client requests r.asked → IsRead k more calls client requests r.asked
+            IsRead k p.setting.front ds calls client requests r.asked → IsRead k p.setting.front more calls client requests r.asked
         read_on client requests row r = record {
           behind = r.behind;
           accepted = r.accepted;
-          front = r.front;
+          wires = r.wires;
+          first = r.first;
           rest = r.rest;
           whole = r.whole;
           reads = r.reads;
+          asked_are = r.asked_are;
           are = r.are;
           asking = r.asking;
           all = λ here off. r.all here (less off);
@@ -89,7 +92,7 @@ module _ (limits : Limits) (k : ℕ) where
         subst (λ (cs : List Called). Now cs (turned_by limits dialled rest (turned limits dialled call p))) (append_assoc calls (call ∷ []) rest)
         (turns_on rest (more_calls k calls call) (turned limits dialled call p) (turn_on calls call p s))
 
-    begins : (c : Contents) → may_begin limits c ≡ true → Now [] (unused c)
+    begins : (c : Setting) → may_begin limits c.contents ≡ true → Now [] (unused c)
     begins c may = record {
       count = omega arith;
       clients = tt;
@@ -99,7 +102,7 @@ module _ (limits : Limits) (k : ℕ) where
       row = record { none = refl; nobody = refl; unheld = λ d is. let never : None ≡ Some k = is.1 in cc };
     }
 
-  rested_all : (c : Contents) (log : Log) → may_begin limits c ≡ true →
+  rested_all : (c : Setting) (log : Log) → may_begin limits c.contents ≡ true →
       Rested limits k (so_far (behind_all limits c log) (dials_from c log.dialled)) log.calls (behind_all limits c log)
   rested_all c log may =
       let dialled : List (Option ℕ) = dials_from c log.dialled in
@@ -107,7 +110,7 @@ module _ (limits : Limits) (k : ℕ) where
 
 -- THE LAWS
 
-module _ (limits : Limits) (c : Contents) (log : Log) (k : ℕ) where
+module _ (limits : Limits) (c : Setting) (log : Log) (k : ℕ) where
   abbrev p : Proxy
   p = behind_all limits c log
 
@@ -117,18 +120,18 @@ module _ (limits : Limits) (c : Contents) (log : Log) (k : ℕ) where
   abbrev OfRow : Option Client → Type 0
   OfRow o = IsRow limits p.history k ds log.calls p o
 
-  abbrev has_asked : (client : Client) (r : OfRow (Some client)) → HasAsked (got_from k r.read.behind) (starts_of p.holder k p.history)
+  abbrev has_asked : (client : Client) (r : OfRow (Some client)) → HasAsked p.setting.front (got_from k r.read.behind) (starts_of p.holder k p.history)
   has_asked client r = record {
-    front = r.read.front;
+    first = r.read.first;
     rest = client.input ++ r.read.rest;
-    asked = r.asked;
+    asked = r.read.wires;
     reading = client.reading;
     whole = r.read.whole;
     reads = r.read.reads;
     are = r.read.are;
   }
 
-  is_asked : (o : Option Client) → OfRow o → IsAsked k log.calls (starts_of p.holder k p.history)
+  is_asked : (o : Option Client) → OfRow o → IsAsked p.setting.front k log.calls (starts_of p.holder k p.history)
   is_asked None r = nothing r.none
   is_asked (Some client) r = since r.read.accepted.0 r.read.behind r.read.accepted.1 r.read.accepted.2 r.read.accepted.3 (has_asked client r)
 
@@ -140,16 +143,18 @@ module _ (limits : Limits) (c : Contents) (log : Log) (k : ℕ) where
     calls_are = r.read.accepted.2;
     accepted = r.read.accepted.3;
     asks = has_asked client r;
-    owed_is = r.owes.owed_is;
+    owed_is = r.owes.owed_is ∙ ap (λ (rs : List Asking). answers_to rs (consumers_of p.holder k p.history) p.history ++ error_answer client.reading)
+        r.read.asked_are;
   }
 
 pub starts_are_asked : StartsAreAsked
 starts_are_asked limits c log may =
     let p : Proxy = behind_all limits c log in
     record {
-      clients = subst (λ (d : Contents). AreClients d.last_consumer p.holder p.history) (contents_stay limits c log may)
+      clients = subst (λ (d : Setting). AreClients d.contents.last_consumer p.holder p.history) (contents_stay limits c log may)
           (rested_all limits 0 c log may).clients;
-      each = λ k. is_asked limits c log k (p.client k) (rested_all limits k c log may).row;
+      each = λ k. subst (λ (d : Setting). IsAsked d.front k log.calls (starts_of p.holder k p.history)) (contents_stay limits c log may)
+          (is_asked limits c log k (p.client k) (rested_all limits k c log may).row);
     }
 
 pub answers_are_owed : AnswersAreOwed

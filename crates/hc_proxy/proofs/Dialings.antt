@@ -340,7 +340,7 @@ module _ {B : Type 0} {g : Ghosts B} (t : Turn) (x : loop.Proxy B g) (up : Upstr
 
   cache : HasCache t.frame x' p'
   cache = record {
-    contents = h.cache.contents;
+    setting = h.cache.setting;
     stands = h.cache.stands;
     same = h.cache.same;
     limits = h.cache.limits;
@@ -348,6 +348,7 @@ module _ {B : Type 0} {g : Ghosts B} (t : Turn) (x : loop.Proxy B g) (up : Upstr
     early = h.cache.early;
     last = h.cache.last;
     starts = h.cache.starts;
+    front = h.cache.front;
     last_start = h.cache.last_start;
     text = h.cache.text;
     recorded = h.cache.recorded;
@@ -385,7 +386,7 @@ module _ {B : Type 0} {g : Ghosts B} (t : Turn) (x : loop.Proxy B g) (up : Upstr
     on_wire = record {
       follows = follows_dialled k log reported reported' before after on.follows o.dials;
       stands = λ j. refl;
-      dialled = dials_more t.frame.contents log.dialled (k ∷ []) ∙ ap (λ (os : List (Option ℕ)). os ++ Some k ∷ []) on.dialled;
+      dialled = dials_more t.frame.setting log.dialled (k ∷ []) ∙ ap (λ (os : List (Option ℕ)). os ++ Some k ∷ []) on.dialled;
       taken = λ j. by_taken j (on.taken j);
     };
     keeps = record {

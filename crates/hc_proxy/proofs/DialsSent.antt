@@ -58,7 +58,7 @@ module _ (q : Proxy) (more : List ℕ) (log log' : Log) (d : Dials more log log'
   later = dials_in q log ++ map Some more
 
   later_is : dials_in q log' ≡ later
-  later_is = ap (dials_from q.contents) d.dialled ∙ dials_more q.contents log.dialled more
+  later_is = ap (dials_from q.setting) d.dialled ∙ dials_more q.setting log.dialled more
 
   seen_stage : (c : Taker) → (b : Bool) → (if b then Open c.reads c.ended else Closed) ≡ Unseen → ⊥
   seen_stage c true is = let never : Open c.reads c.ended ≡ Unseen = is in cc

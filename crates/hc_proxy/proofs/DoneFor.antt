@@ -218,9 +218,9 @@ module _ {B : Type 0} {g : Ghosts B} where
               (λ c starts. no_start c (subst (Starts c) s.event_is starts));
           upstreams = but_upstreams;
           wire = wire_moves t.stages x x' r.clients r.upstreams r.closed h.wire;
-          numbers = (let a : p.starts ≤ p.contents.last_consumer + steps x.cache = h.numbers in let b : steps x'.cache ≡ steps x.cache + 1 = one in
+          numbers = (let a : p.starts ≤ p.setting.contents.last_consumer + steps x.cache = h.numbers in let b : steps x'.cache ≡ steps x.cache + 1 = one in
               omega arith);
-          opened = (let a : p.tables.opened ≤ p.contents.next_exchange + steps x.cache = h.opened in let b : steps x'.cache ≡ steps x.cache + 1 = one in
+          opened = (let a : p.tables.opened ≤ p.setting.contents.next_exchange + steps x.cache = h.opened in let b : steps x'.cache ≡ steps x.cache + 1 = one in
               let c : (after p.tables s.e).opened ≡ p.tables.opened = opened_same in omega arith);
           seen = h.seen;
           shut = closed_behind t.frame.limits p stands s.e s.is_owed (acts_in p.part) h.shut;

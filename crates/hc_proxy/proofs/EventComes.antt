@@ -113,16 +113,17 @@ module _ {B : Type 0} {g : Ghosts B} where
 -- THE SAME EVENT, of a cache that is the same
 
 module _ {B : Type 0} {g : Ghosts B} where
-  pub same_some : (x x' : loop.Proxy B g) → x'.cache ≡ x.cache → x'.record ≡ x.record → x'.now ≡ x.now → x'.starts ≡ x.starts → ∥ StandsForSome x ∥₁ →
+  pub same_some : (x x' : loop.Proxy B g) → x'.cache ≡ x.cache → x'.record ≡ x.record → x'.now ≡ x.now → x'.starts ≡ x.starts → x'.front ≡ x.front →
+      ∥ StandsForSome x ∥₁ →
       ∥ StandsForSome x' ∥₁
-  same_some x x' cache text now starts some = ∥∥₁_map some (λ s. (s.0, s.1, cache_moves s.0 x x' s.1 cache text now starts s.2))
+  same_some x x' cache text now starts front some = ∥∥₁_map some (λ s. (s.0, s.1, cache_moves s.0 x x' s.1 cache text now starts front s.2))
 
   pub same_step : (x mid : loop.Proxy B g) (m : Bool) (ev : Event)
       → ((f : Frame) (p : Proxy) → HasCache f (record x { moved = m }) p → unread p + bytes_received x.cache + received_in ev ≤ f.bytes →
       Stepped f (record x { moved = m }) mid ev p)
       → (f : Frame) (p : Proxy) → HasCache f x p → unread p + bytes_received x.cache + received_in ev ≤ f.bytes → Stepped f x mid ev p
   same_step x mid m ev steps f p h room =
-      let st = steps f p (cache_moves f x (record x { moved = m }) p refl refl refl refl h) room in
+      let st = steps f p (cache_moves f x (record x { moved = m }) p refl refl refl refl refl h) room in
       record { e = st.e; now = st.now; event_is = st.event_is; is_owed = st.is_owed; acts = st.acts; cache = st.cache; later = st.later; same = st.same }
 
 module _ {B : Type 0} {g : Ghosts B} where

@@ -6,11 +6,10 @@
 -- that is made.
 use Rattle.std.{proofs.Common.{◌≡◌, ◌≤◌, ℕ, List, [], ◌∷◌, ◌++◌, Bool, true, false, Option, None, Some, refl, ap, sym, ◌∙◌, subst, arith, append-nil, length-append}, specs.Prelude.{nat_eq, length, map, option_map, if◌then◌else◌}}
 use Rattle.hc_io.specs.Sink.{Takes, TakesPrefix}
-use Rattle.hc_effects.proofs.Vocabulary.{Contents}
 use Rattle.hc_store.specs.declared.backend.Backend.{Ghosts}
 use Rattle.hc_wire.specs.{Events.{Stage, Unseen}, Logs.{Log, stage_in}}
 use Rattle.hc_proxy.specs.declared.proxy.Proxy as loop
-use Rattle.hc_proxy.specs.{Connections.{dials_from, dials_in}, declared.record.Record.{Record}, Carrying.{answered, carried, acts_in}, Endings.{SentOn}, Keeping.{Turn, HasCache, KeepsPolled}, Logging.{Dials, AreApart}, Records.{text_of, last_of}, Resting.{Rests}, Rows.{Client, Proxy}, Serving.{FinishesTurn, CutsTurn}, TurnSteps.{CarriedOut, CarriedSome, SentAll, SentSome}, Underway.{OnWire}, Waiting.{waits}}
+use Rattle.hc_proxy.specs.{Connections.{dials_from, dials_in}, declared.record.Record.{Record}, Carrying.{answered, carried, acts_in}, Endings.{SentOn}, Keeping.{Turn, HasCache, KeepsPolled}, Logging.{Dials, AreApart}, Records.{text_of, last_of}, Resting.{Rests}, Rows.{Client, Proxy, Setting}, Serving.{FinishesTurn, CutsTurn}, TurnSteps.{CarriedOut, CarriedSome, SentAll, SentSome}, Underway.{OnWire}, Waiting.{waits}}
 use Rattle.hc_proxy.proofs.{DialsSent.{dials_sent}, Later.{record_carried}, MoreConnections.{dials_more}, OpensUp.{up_grows}, Turning.{IsCarried, open_any, carried_keeps}}
 
 -- WHERE NO CLIENT WAS, none is behind the acts
@@ -48,7 +47,7 @@ module _ {B : Type 0} {g : Ghosts B} (t : Turn) (q : Proxy) (y : loop.Proxy B g)
   written_cache =
       let c = k.keeps.cache in
       record {
-        contents = c.contents;
+        setting = c.setting;
         stands = c.stands;
         same = c.same;
         limits = c.limits;
@@ -56,6 +55,7 @@ module _ {B : Type 0} {g : Ghosts B} (t : Turn) (q : Proxy) (y : loop.Proxy B g)
         early = c.early;
         last = c.last;
         starts = c.starts;
+        front = c.front;
         last_start = c.last_start;
         text = c.text ∙ (sym (append-nil (t.frame.written ++ text_of y.record)) ∙ ap (λ (z : List ℕ). (t.frame.written ++ text_of y.record) ++ z) (sym empty));
         recorded = last ∙ c.recorded;
@@ -127,7 +127,7 @@ module _ {B : Type 0} {g : Ghosts B} (t : Turn) (q : Proxy) (log : Log) (y : loo
   nobody j is = none_carried j q (k.keeps.seen j (sym (on.stands j) ∙ (on.follows.stands j ∙ is))).0
 
   before_is : dials_in q log ≡ t.dialled
-  before_is = ap (λ (c : Contents). dials_from c log.dialled) k.keeps.cache.contents ∙ on.dialled
+  before_is = ap (λ (c : Setting). dials_from c log.dialled) k.keeps.cache.setting ∙ on.dialled
 
   few_dialled : length t.dialled ≤ q.tables.opened
   few_dialled = up_grows (acts_in q.part) (length t.dialled) q.tables.opened k.keeps.upstreams.opens
@@ -169,8 +169,8 @@ module _ {B : Type 0} {g : Ghosts B} (t : Turn) (q : Proxy) (log : Log) (y : loo
       }
         where
           more_is : dials_in q s.log' ≡ t.dialled ++ map Some s.more
-          more_is = ap (dials_from q.contents) s.dials.dialled
-              ∙ (dials_more q.contents log.dialled s.more ∙ ap (λ (ks : List (Option ℕ)). ks ++ map Some s.more) before_is)
+          more_is = ap (dials_from q.setting) s.dials.dialled
+              ∙ (dials_more q.setting log.dialled s.more ∙ ap (λ (ks : List (Option ℕ)). ks ++ map Some s.more) before_is)
 
       module _ (y2 : loop.Proxy B g) (c : CarriedOut (writing t (text_of y.record)) q log y2 reported1 stages1) where
         -- the turn behind the acts
@@ -178,11 +178,11 @@ module _ {B : Type 0} {g : Ghosts B} (t : Turn) (q : Proxy) (log : Log) (y : loo
         behind = record (writing t (text_of y.record)) { dialled = t.dialled ++ map Some c.more; stages = stages1 }
 
         all_dialled : length (dials_in q c.log') ≡ q.tables.opened
-        all_dialled = ap (λ (d : Contents). length (dials_from d c.log'.dialled)) k.keeps.cache.contents ∙ (ap length c.on_wire.dialled ∙ c.opened few_dialled)
+        all_dialled = ap (λ (d : Setting). length (dials_from d c.log'.dialled)) k.keeps.cache.setting ∙ (ap length c.on_wire.dialled ∙ c.opened few_dialled)
 
         few_now : (log' : Log) → log'.dialled ≡ c.log'.dialled → length (dials_in q log') ≤ q.tables.opened
         few_now log' same =
-            let is : length (dials_in q log') ≡ q.tables.opened = ap (λ (ks : List ℕ). length (dials_from q.contents ks)) same ∙ all_dialled in
+            let is : length (dials_in q log') ≡ q.tables.opened = ap (λ (ks : List ℕ). length (dials_from q.setting ks)) same ∙ all_dialled in
             omega arith
 
         carried_sent : SentOn (carried q) log c.log'

@@ -272,7 +272,7 @@ module _ {B : Type 0} {g : Ghosts B} where
             st = stepped (with_upstream z change p) read_out.cache
 
             cache_here : HasCache t.frame y p
-            cache_here = cache_moves t.frame x y p refl refl refl refl h.cache
+            cache_here = cache_moves t.frame x y p refl refl refl refl refl h.cache
 
             abbrev as_is : Stepped t.frame y x' ev p
             as_is = stepped p cache_here

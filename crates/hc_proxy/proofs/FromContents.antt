@@ -7,14 +7,14 @@
 use Rattle.std.{proofs.Common.{◌≡◌, ◌<◌, ◌^◌, ℕ, ◌+◌, ◌-◌, List, [], ◌++◌, length, true, false, Some, None, refl, ap, sym, ◌∙◌, subst, arith}, specs.Prelude.{IsSome, Contains}}
 use Rattle.hc_text.proofs.Basics.{false_true, none_some}
 use Rattle.hc_core.specs.{declared.cache.Cache.{Cache}, Steps.{last_moment, limits_in, bytes_received}}
-use Rattle.hc_effects.proofs.Vocabulary.{act_list, is_live, Contents, is_open, tables}
+use Rattle.hc_effects.proofs.Vocabulary.{act_list, is_live, is_open, tables}
 use Rattle.hc_peers.specs.{Clients.{client_of}, Upstreams.{upstream_of}}
 use Rattle.hc_peers.specs.declared.client.Client as peer
 use Rattle.hc_peers.specs.declared.upstream.Upstream as origin
 use Rattle.hc_store.specs.declared.backend.Backend.{Ghosts}
 use Rattle.hc_wire.specs.{Events.{Stage, IsOpen}, Logs.{Log, Called, Taker, stage_in}}
 use Rattle.hc_proxy.specs.declared.proxy.Proxy as loop
-use Rattle.hc_proxy.specs.{Connections.{dials_from, dials_in, exchange_of}, Endings.{IsFresh}, Invariants.{HasConsumers, NamesOne, unread}, Keeping.{Frame, HasCache, HasUpstreams, AtWire, IsUnused}, Records.{text_of, last_of}, Resting.{IsRestingAt, Rests, resting_call}, Rows.{Proxy, unused}}
+use Rattle.hc_proxy.specs.{Connections.{dials_from, dials_in, exchange_of}, Endings.{IsFresh}, Invariants.{HasConsumers, NamesOne, unread}, Keeping.{Frame, HasCache, HasUpstreams, AtWire, IsUnused}, Records.{text_of, last_of}, Resting.{IsRestingAt, Rests, resting_call}, Rows.{Proxy, unused, Setting}}
 use Rattle.hc_proxy.proofs.{Inserted.{ascends_sorted}, MoreConnections.{dials_length, nobodys_first, none_dialled}, Stands.{early_moment}}
 
 none_in : {A : Type 0} (k : ℕ) → Contains [] k → A
@@ -22,7 +22,7 @@ none_in k (n, within, is) = absurd (omega arith)
 
 -- nothing is open, and nobody is live
 
-module _ (c : Contents) where
+module _ (c : Setting) where
   none_open : {A : Type 0} (y : ℕ) → is_open ((unused c).tables.exchange y) ≡ true → A
   unfolding tables
   none_open y on = false_true on
@@ -31,11 +31,11 @@ module _ (c : Contents) where
   unfolding tables
   none_live d on = false_true on
 
-  opened_first : (unused c).tables.opened ≡ c.next_exchange - 1
+  opened_first : (unused c).tables.opened ≡ c.contents.next_exchange - 1
   unfolding tables
   opened_first = refl
 
-  last_first : (unused c).tables.last_start ≡ c.last_consumer
+  last_first : (unused c).tables.last_start ≡ c.contents.last_consumer
   unfolding tables
   last_first = refl
 
@@ -43,7 +43,7 @@ module _ (c : Contents) where
   unfolding tables
   none_unread = refl
 
-  moment_first : (tables c []).moment ≡ c.now
+  moment_first : (tables c.contents []).moment ≡ c.contents.now
   unfolding tables
   moment_first = refl
 
@@ -51,7 +51,7 @@ module _ (c : Contents) where
   places_first : (dialled : List ℕ) → dialled ≡ [] → length (dials_from c dialled) ≡ (unused c).tables.opened
   places_first dialled none =
       ap (λ (ks : List ℕ). length (dials_from c ks)) none
-      ∙ (dials_length c [] ∙ (let sum : (c.next_exchange - 1) + 0 ≡ c.next_exchange - 1 = omega arith in sum ∙ sym opened_first))
+      ∙ (dials_length c [] ∙ (let sum : (c.contents.next_exchange - 1) + 0 ≡ c.contents.next_exchange - 1 = omega arith in sum ∙ sym opened_first))
 
   no_consumers : HasConsumers (unused c)
   no_consumers = record {
@@ -63,12 +63,13 @@ module _ (c : Contents) where
   }
 
 -- the moment of the cache is theirs
-pub moment_is : {B : Type 0} {g : Ghosts B} (f : Frame) (cache : Cache B g) → IsUnused f cache → last_moment cache ≡ f.contents.now
-moment_is f cache u = u.stands.moment ∙ moment_first f.contents
+pub moment_is : {B : Type 0} {g : Ghosts B} (f : Frame) (cache : Cache B g) → IsUnused f cache → last_moment cache ≡ f.setting.contents.now
+moment_is f cache u = u.stands.moment ∙ moment_first f.setting
 
 module _ {B : Type 0} {g : Ghosts B} (f : Frame) (x : loop.Proxy B g) (log : Log) (u : IsUnused f x.cache) (fresh : IsFresh log)
-    (now : x.now ≡ f.contents.now) (starts : x.starts ≡ f.contents.last_consumer) (moved : x.moved ≡ false) (text : text_of x.record ≡ [])
-    (last : last_of x.record ≡ f.contents.now)
+    (now : x.now ≡ f.setting.contents.now) (starts : x.starts ≡ f.setting.contents.last_consumer) (front : x.front ≡ f.setting.front)
+    (moved : x.moved ≡ false) (text : text_of x.record ≡ [])
+    (last : last_of x.record ≡ f.setting.contents.now)
     (acts : act_list x.acts ≡ [])
     (clients : (k : ℕ) → client_of x.clients k ≡ None) (upstreams : (y : ℕ) → upstream_of x.upstreams y ≡ None) (closed : x.closed.items ≡ []) where
   no_row : {A : Type 0} (y : ℕ) (v : origin.Upstream) → upstream_of x.upstreams y ≡ Some v → A
@@ -81,29 +82,30 @@ module _ {B : Type 0} {g : Ghosts B} (f : Frame) (x : loop.Proxy B g) (log : Log
   some_row y some = false_true (subst IsSome (upstreams y) some)
 
   abbrev p : Proxy
-  p = unused f.contents
+  p = unused f.setting
 
-  early : f.contents.now < 2 ^ 62
-  early = early_moment (limits_in x.cache) f.contents u.stands.begins
+  early : f.setting.contents.now < 2 ^ 62
+  early = early_moment (limits_in x.cache) f.setting u.stands.begins
 
   first_cache : HasCache f x p
   first_cache = record {
-    contents = refl;
+    setting = refl;
     stands = u.stands;
     same = refl;
     limits = u.limits;
     now = now;
     early = early;
-    last = (let a : last_moment x.cache ≡ (tables f.contents []).moment = u.stands.moment in
-        let b : (tables f.contents []).moment ≡ f.contents.now = moment_first f.contents in omega arith);
+    last = (let a : last_moment x.cache ≡ (tables f.setting.contents []).moment = u.stands.moment in
+        let b : (tables f.setting.contents []).moment ≡ f.setting.contents.now = moment_first f.setting in omega arith);
     starts = starts;
-    last_start = (let a : p.tables.last_start ≡ f.contents.last_consumer = last_first f.contents in omega arith);
+    front = front;
+    last_start = (let a : p.tables.last_start ≡ f.setting.contents.last_consumer = last_first f.setting in omega arith);
     text = sym (ap (λ (z : List ℕ). z ++ text_of x.record) u.written ∙ text);
     recorded = last;
     before = omega arith;
     unopened = λ y past. refl;
     headed = λ y v on at. none_some v at;
-    small = (let a : unread p ≡ 0 = none_unread f.contents in let b : bytes_received x.cache ≡ 0 = u.received in omega arith);
+    small = (let a : unread p ≡ 0 = none_unread f.setting in let b : bytes_received x.cache ≡ 0 = u.received in omega arith);
     bounded = u.bounded;
     room = u.room;
     targets = tt;
@@ -112,13 +114,13 @@ module _ {B : Type 0} {g : Ghosts B} (f : Frame) (x : loop.Proxy B g) (log : Log
   first_upstreams : (call : Called) (stages : ℕ → Stage) →
       HasUpstreams (record { frame = f; call = resting_call log call; dialled = dials_in p log; stages = stages }) x p []
   first_upstreams call stages = record {
-    rows = λ y on. none_open f.contents y on;
+    rows = λ y on. none_open f.setting y on;
     numbers = λ y v is. no_row y v is;
     over = λ y some. some_row y some;
-    news = λ y on. none_open f.contents y on;
+    news = λ y on. none_open f.setting y on;
     touched = λ y v is. no_row y v is;
-    opens = places_first f.contents log.dialled fresh.dialled;
-    names = subst (λ (ks : List ℕ). NamesOne (dials_from f.contents ks)) (sym fresh.dialled) (λ y k is. absurd (none_dialled f.contents y k is));
+    opens = places_first f.setting log.dialled fresh.dialled;
+    names = subst (λ (ks : List ℕ). NamesOne (dials_from f.setting ks)) (sym fresh.dialled) (λ y k is. absurd (none_dialled f.setting y k is));
     strangers = λ k some. false_true some;
   }
 
@@ -139,15 +141,15 @@ module _ {B : Type 0} {g : Ghosts B} (f : Frame) (x : loop.Proxy B g) (log : Log
     order = ascends_sorted 0 [] tt;
     listed = λ k some. false_true some;
     few = omega arith;
-    consumers = no_consumers f.contents;
+    consumers = no_consumers f.setting;
     alive = λ k c w. none_some w.row w.at;
     upstreams = first_upstreams;
     resting = λ y v is. no_row y v is;
-    opened = places_first f.contents log.dialled fresh.dialled;
-    heard = λ y v on. none_open f.contents y on;
+    opened = places_first f.setting log.dialled fresh.dialled;
+    heard = λ y v on. none_open f.setting y on;
     wire = first_wire;
     closed = closed;
     numbers = omega arith;
-    opened_by = (let a : p.tables.opened ≡ f.contents.next_exchange - 1 = opened_first f.contents in omega arith);
-    seen = λ k unseen. (refl, ap (λ (ks : List ℕ). exchange_of (dials_from f.contents ks) k) fresh.dialled ∙ nobodys_first f.contents k, none_in k);
+    opened_by = (let a : p.tables.opened ≡ f.setting.contents.next_exchange - 1 = opened_first f.setting in omega arith);
+    seen = λ k unseen. (refl, ap (λ (ks : List ℕ). exchange_of (dials_from f.setting ks) k) fresh.dialled ∙ nobodys_first f.setting k, none_in k);
   }

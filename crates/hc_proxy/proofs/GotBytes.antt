@@ -115,7 +115,7 @@ module _ {B : Type 0} {g : Ghosts B} (t : Turn) (x : loop.Proxy B g) (p : Proxy)
     some_was j some = row_was t x p k _ (client_sends bytes) s becomes change j some
 
     cache_of : HasCache t.frame (record x { clients = s }) (with_client k (client_sends bytes) p)
-    cache_of = cache_moves t.frame x (record x { clients = s }) (with_client k (client_sends bytes) p) refl refl refl refl
+    cache_of = cache_moves t.frame x (record x { clients = s }) (with_client k (client_sends bytes) p) refl refl refl refl refl
         (cache_with t.frame x p (with_client k (client_sends bytes) p).client p.accepted h.quiet.keeps.cache)
 
     sent_keeps : KeepsQuiet t (record x { clients = s }) (with_client k (client_sends bytes) p)
@@ -298,9 +298,11 @@ module _ {B : Type 0} {g : Ghosts B} (t : Turn) (x : loop.Proxy B g) (p : Proxy)
 -- WHAT A STEP ASKS FOR
 
 module _ {B : Type 0} {g : Ghosts B} (x : loop.Proxy B g) (k : ℕ) where
-  pub some_cache : (x' : loop.Proxy B g) → x'.cache ≡ x.cache → x'.record ≡ x.record → x'.now ≡ x.now → x'.starts ≡ x.starts → ∥ IsAtEvent x k ∥₁ →
+  pub some_cache : (x' : loop.Proxy B g) → x'.cache ≡ x.cache → x'.record ≡ x.record → x'.now ≡ x.now → x'.starts ≡ x.starts → x'.front ≡ x.front →
+      ∥ IsAtEvent x k ∥₁ →
       ∥ StandsForSome x' ∥₁
-  some_cache x' cache text now starts some = ∥∥₁_map some (λ s. (s.0.frame, s.1, cache_moves s.0.frame x x' s.1 cache text now starts s.2.quiet.keeps.cache))
+  some_cache x' cache text now starts front some = ∥∥₁_map some
+      (λ s. (s.0.frame, s.1, cache_moves s.0.frame x x' s.1 cache text now starts front s.2.quiet.keeps.cache))
 
   pub small_bytes : ∥ IsAtEvent x k ∥₁ → bytes_received x.cache + 0 < 2 ^ 61
   small_bytes some = ∥∥₁_elim some le_prop (λ s.
@@ -320,14 +322,14 @@ module _ {B : Type 0} {g : Ghosts B} (x : loop.Proxy B g) (k : ℕ) where
   small_consumer some few client c is waits = ∥∥₁_elim some le_prop (λ s.
       let w = holder_of s.0 s.1 c client (client_of x.clients k) (s.1.client k) (s.2.quiet.keeps.clients.rows k) refl is waits in
       let a : c ≤ s.1.starts = s.2.quiet.keeps.consumers.started k c w in
-      let b : s.1.starts ≤ s.1.contents.last_consumer + steps x.cache = s.2.quiet.keeps.numbers in
-      let room : s.1.contents.last_consumer < 2 ^ 61 = s.2.quiet.keeps.cache.room in
+      let b : s.1.starts ≤ s.1.setting.contents.last_consumer + steps x.cache = s.2.quiet.keeps.numbers in
+      let room : s.1.setting.contents.last_consumer < 2 ^ 61 = s.2.quiet.keeps.cache.room in
       omega arith)
 
   pub small_exchange : ∥ IsAtEvent x k ∥₁ → steps x.cache < 2 ^ 60 → (z : ℕ) → is_at k (upstream_of x.upstreams z) ≡ true → z < 2 ^ 62
   small_exchange some few z there = ∥∥₁_elim some le_prop (λ s.
       let on = open_one s.0 x s.1 k s.2 z (numbered k (upstream_of x.upstreams z) there) in
       let a : z ≤ s.1.tables.opened = open_number s.1.tables (law_of s.0.frame x s.1 s.2.quiet.keeps.cache) z on (nat_lt s.1.tables.opened z) refl in
-      let b : s.1.tables.opened ≤ s.1.contents.next_exchange + steps x.cache = s.2.quiet.keeps.opened in
-      let few_before : s.1.contents.next_exchange ≤ 2 ^ 60 = few_exchanges (limits_in x.cache) s.1.contents s.2.quiet.keeps.cache.stands.begins in
+      let b : s.1.tables.opened ≤ s.1.setting.contents.next_exchange + steps x.cache = s.2.quiet.keeps.opened in
+      let few_before : s.1.setting.contents.next_exchange ≤ 2 ^ 60 = few_exchanges (limits_in x.cache) s.1.setting s.2.quiet.keeps.cache.stands.begins in
       omega arith)

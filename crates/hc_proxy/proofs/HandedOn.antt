@@ -458,14 +458,22 @@ module _ {B : Type 0} {g : Ghosts B} where
             event_is = stepped.event_is;
             is_owed = stepped.is_owed;
             acts = stepped.acts;
-            cache = cache_moves t.frame x' unread_yet reported refl refl refl refl stepped.cache;
+            cache = cache_moves t.frame x' unread_yet reported refl refl refl refl refl stepped.cache;
             later = stepped.later;
             same = stepped.same;
           }
 
           before_read : KeepsBut z t unread_yet reported
           before_read = head_but z t x unread_yet p response h st
-              (record { now = rest.now; starts = rest.starts; clients = rest.clients; upstreams = refl; closed = rest.closed; round = rest.round }) moved one
+              (record {
+                now = rest.now;
+                starts = rest.starts;
+                front = rest.front;
+                clients = rest.clients;
+                upstreams = refl;
+                closed = rest.closed;
+                round = rest.round;
+              }) moved one
 
           row_headed : (o u : Option Exchange) → p.tables.exchange z ≡ o → is_open o ≡ true → (after p.tables stepped.e).exchange z ≡ u →
               is_open u ≡ true → has_head u ≡ true

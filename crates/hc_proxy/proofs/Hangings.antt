@@ -61,7 +61,7 @@ module _ {B : Type 0} {g : Ghosts B} (t : Turn) (z : ℕ) (acts : List Act) (x x
 
   pub close_goes : KeepsUnderway t acts x' p
   close_goes = record {
-    cache = cache_moves t.frame x x' p u.cache u.text u.now u.starts h.cache;
+    cache = cache_moves t.frame x x' p u.cache u.text u.now u.starts u.front h.cache;
     moved = u.moved ∙ h.moved;
     clients = clients_move t x x' p u.clients h.clients;
     holders = holders;
@@ -74,7 +74,7 @@ module _ {B : Type 0} {g : Ghosts B} (t : Turn) (z : ℕ) (acts : List Act) (x x
     heard = h.heard;
     wire = wire_left t z x x' p shut u h.clients ups.numbers ups.names ups.strangers h.wire;
     known = known_left t z x x' p shut u h.clients ups.numbers ups.names ups.strangers h.wire h.known;
-    numbers = subst (λ c. p.starts ≤ p.contents.last_consumer + steps c) (sym u.cache) h.numbers;
-    opened = subst (λ c. p.tables.opened ≤ p.contents.next_exchange + steps c) (sym u.cache) h.opened;
+    numbers = subst (λ c. p.starts ≤ p.setting.contents.last_consumer + steps c) (sym u.cache) h.numbers;
+    opened = subst (λ c. p.tables.opened ≤ p.setting.contents.next_exchange + steps c) (sym u.cache) h.opened;
     seen = h.seen;
   }

@@ -50,7 +50,7 @@ module _ {B : Type 0} {g : Ghosts B} where
     few_opened : open_now p.tables ≤ 512
     few_opened =
         let a : open_now p.tables ≤ length (clients_here p) =
-        few_open p law k.keeps.consumers k.keeps.clients.listed t.frame.limits p.contents p.history
+        few_open p law k.keeps.consumers k.keeps.clients.listed t.frame.limits p.setting.contents p.history
         (begins_of t.frame x p k.keeps.cache) (run_of t.frame x p k.keeps.cache) k.keeps.cache.same in
         let b : length (clients_here p) ≤ 512 = k.keeps.clients.few in
         omega arith
@@ -93,7 +93,7 @@ module _ {B : Type 0} {g : Ghosts B} where
       let h = k.keeps in
       record {
         keeps = record {
-          cache = cache_moves t.frame x (record x { round = z.round }) p refl refl refl refl h.cache;
+          cache = cache_moves t.frame x (record x { round = z.round }) p refl refl refl refl refl h.cache;
           acts = h.acts;
           clients = clients_move t x (record x { round = z.round }) p refl h.clients;
           consumers = h.consumers;

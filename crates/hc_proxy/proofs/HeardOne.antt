@@ -12,7 +12,7 @@ use Rattle.hc_msg.specs.declared.message.WirePart.TheVariants as part
 use Rattle.hc_peers.specs.{Upstreams.{is_news}, declared.upstreams.Upstreams.{Upstreams}}
 use Rattle.hc_store.specs.declared.backend.Backend.{Ghosts}
 use Rattle.hc_proxy.specs.declared.proxy.Proxy as loop
-use Rattle.hc_proxy.specs.{Hearing.{length_of, PartStepped, MayTake, MayStep, IsOpenHere}, Invariants.{unread}, Keeping.{Frame, Turn, HasCache, StandsForSome, Stepped, RestStays, KeepsBut}, Rows.{Proxy}, Steps.{with_entry}}
+use Rattle.hc_proxy.specs.{Hearing.{length_of, PartStepped, MayTake, MayStep, IsOpenHere}, Invariants.{unread}, Keeping.{Frame, Turn, HasCache, StandsForSome, Stepped, RestStays, KeepsBut}, Rows.{Proxy, Setting}, Steps.{with_entry}}
 use Rattle.hc_proxy.proofs.{Alike.{cache_moves}, HandedOn.{open_number}, PollOne.{appended}, Stands.{few_exchanges}, StepOn.{law_of}}
 
 module _ {B : Type 0} {g : Ghosts B} where
@@ -24,26 +24,28 @@ module _ {B : Type 0} {g : Ghosts B} where
       omega arith)
 
   -- where the cache is the same
-  pub may_stands : (n z : ℕ) (x x' : loop.Proxy B g) → x'.cache ≡ x.cache → x'.record ≡ x.record → x'.now ≡ x.now → x'.starts ≡ x.starts →
+  pub may_stands : (n z : ℕ) (x x' : loop.Proxy B g) → x'.cache ≡ x.cache → x'.record ≡ x.record → x'.now ≡ x.now → x'.starts ≡ x.starts → x'.front ≡ x.front →
       ∥ MayStep n z x ∥₁ → ∥ StandsForSome x' ∥₁
-  may_stands n z x x' cache text now starts some = ∥∥₁_map some (λ s. (s.0.frame, s.1, cache_moves s.0.frame x x' s.1 cache text now starts s.2.cache))
+  may_stands n z x x' cache text now starts front some = ∥∥₁_map some
+      (λ s. (s.0.frame, s.1, cache_moves s.0.frame x x' s.1 cache text now starts front s.2.cache))
 
-  pub here_stands : (z : ℕ) (x x' : loop.Proxy B g) → x'.cache ≡ x.cache → x'.record ≡ x.record → x'.now ≡ x.now → x'.starts ≡ x.starts →
+  pub here_stands : (z : ℕ) (x x' : loop.Proxy B g) → x'.cache ≡ x.cache → x'.record ≡ x.record → x'.now ≡ x.now → x'.starts ≡ x.starts → x'.front ≡ x.front →
       ∥ IsOpenHere z x ∥₁ → ∥ StandsForSome x' ∥₁
-  here_stands z x x' cache text now starts some = ∥∥₁_map some (λ s. (s.0.frame, s.1, cache_moves s.0.frame x x' s.1 cache text now starts s.2.cache))
+  here_stands z x x' cache text now starts front some = ∥∥₁_map some
+      (λ s. (s.0.frame, s.1, cache_moves s.0.frame x x' s.1 cache text now starts front s.2.cache))
 
   -- an open exchange has a number that was given out
   number_of : (z : ℕ) (t : Turn) (x : loop.Proxy B g) (p : Proxy) → KeepsBut z t x p → is_open (p.tables.exchange z) ≡ true →
-      z ≤ p.contents.next_exchange + steps x.cache
+      z ≤ p.setting.contents.next_exchange + steps x.cache
   number_of z t x p h on =
       let a : z ≤ p.tables.opened = open_number p.tables (law_of t.frame x p h.cache) z on (nat_lt p.tables.opened z) refl in
-      let b : p.tables.opened ≤ p.contents.next_exchange + steps x.cache = h.opened in
+      let b : p.tables.opened ≤ p.setting.contents.next_exchange + steps x.cache = h.opened in
       omega arith
 
   pub here_small : (z : ℕ) (x : loop.Proxy B g) → ∥ IsOpenHere z x ∥₁ → steps x.cache < 2 ^ 60 → z < 2 ^ 62
   here_small z x some few = ∥∥₁_elim some le_prop (λ s.
-      let a : z ≤ s.1.contents.next_exchange + steps x.cache = number_of z s.0 x s.1 s.2 s.3 in
-      let b : s.1.contents.next_exchange ≤ 2 ^ 60 = few_exchanges (limits_in x.cache) s.1.contents s.2.cache.stands.begins in
+      let a : z ≤ s.1.setting.contents.next_exchange + steps x.cache = number_of z s.0 x s.1 s.2 s.3 in
+      let b : s.1.setting.contents.next_exchange ≤ 2 ^ 60 = few_exchanges (limits_in x.cache) s.1.setting s.2.cache.stands.begins in
       omega arith)
 
   -- where the code says that it is open
@@ -59,11 +61,11 @@ module _ {B : Type 0} {g : Ghosts B} where
 
   pub open_is : (f : Frame) (x : loop.Proxy B g) (p : Proxy) → HasCache f x p → (z : ℕ) (b : Bool) →
       ((contents : Contents) (h : History) → StandsFor x.cache contents h → b ≡ is_open ((tables contents h).exchange z)) → is_open (p.tables.exchange z) ≡ b
-  open_is f x p h z b says = ap (λ (t : Tables). is_open (t.exchange z)) h.same ∙ sym (says p.contents p.history h.stands)
+  open_is f x p h z b says = ap (λ (t : Tables). is_open (t.exchange z)) h.same ∙ sym (says p.setting.contents p.history h.stands)
 
   -- over other tables of connections
   pub cache_over : (f : Frame) (x : loop.Proxy B g) (p : Proxy) (s : Upstreams) → HasCache f x p → HasCache f (record x { upstreams = s }) p
-  cache_over f x p s h = cache_moves f x (record x { upstreams = s }) p refl refl refl refl h
+  cache_over f x p s h = cache_moves f x (record x { upstreams = s }) p refl refl refl refl refl h
 
   -- a step changes no list
   pub still_news : (x : loop.Proxy B g) (s : Upstreams) (x' : loop.Proxy B g) → ((y : ℕ) → is_news s y ≡ is_news x.upstreams y) →

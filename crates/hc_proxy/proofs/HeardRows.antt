@@ -7,18 +7,18 @@
 -- connection has ended and all that came was read.
 use Rattle.std.{proofs.{Common.{◌≡◌, ◌<◌, ◌⊎◌, inl, inr, ℕ, ◌+◌, List, [], ◌∷◌, ◌++◌, Bool, true, false, Option, Some, None, refl, ap, sym, ◌∙◌, subst, arith, append_assoc, append-nil}, lemmas.Bool.Decides.{nat_tests}}, specs.Prelude.{◌&&◌, nat_eq, nat_lt, length, is_none, Result, Ok, Err, if◌then◌else◌, Contains}}
 use Rattle.hc_text.proofs.Basics.{false_true as never_true}
-use Rattle.hc_effects.proofs.Vocabulary.{Act, Need, Contents, Event, Request, History, is_open, is_wanted, owed, Limits, act, event}
+use Rattle.hc_effects.proofs.Vocabulary.{Act, Need, Event, Request, History, is_open, is_wanted, owed, Limits, act, event}
 use Rattle.hc_head.specs.declared.message.{MsgError.{MsgError}, WireRequest.{WireRequest}}
 use Rattle.hc_msg.specs.{Inputs.{Next, Waits, Reports, Brings, Ends, Fails, next_in}, NextParts.{StandsNext, IsReadOn}, Reading.{Reading, Responses, Whole, Done, Failed, Token, Asks, Answers, Byte, Leads, heading}, Taking.{byte_tokens, ending}, declared.message.WirePart.{WirePart}}
 use Rattle.hc_msg.specs.declared.message.WirePart.TheVariants as part
 use Rattle.hc_msg.proofs.{Inputs.{done_takes}, Leading.{leads_on, reports_leads}, NextParts.{stands_next}}
-use Rattle.hc_peers.specs.Renderings.{is_head}
+use Rattle.hc_peers.specs.Renderings.{is_head, asked_of, reply_to}
 use Rattle.hc_wire.specs.Logs.{Called}
-use Rattle.hc_proxy.specs.{Carrying.{answers, opened, carried_out, all_carried_out, carried, acts_in}, Connections.{exchange_of, connection_of}, Handling.{clients_here, client_comes, left, cancelled, leaves, origin_sends, ends}, Headed.{is_answer}, Network.{open_exchanges, has_news, next_of, read_to, is_last_denied, unless_denied, hands_head, hands, hands_if, event_at_close, closes, closes_if, handed, closed, each_heard, heard}, Polls.{polled_all, each_polled, polled, may_be_polled, live_consumers}, Rows.{Client, Upstream, Proxy, unused, with_client, with_upstream}, Starts.{asks, with_holder, started, hears_request, hears, hears_if, is_ready, started_all}, Steps.{with_entry, stepped}, Received.{received_by, received_of, HasSent, IsOpenedFor}, Turns.{turned, turned_by}}
+use Rattle.hc_proxy.specs.{Carrying.{answers, opened, carried_out, all_carried_out, carried, acts_in}, Connections.{exchange_of, connection_of}, Handling.{clients_here, client_comes, left, cancelled, leaves, origin_sends, ends}, Headed.{is_answer}, Network.{open_exchanges, has_news, next_of, read_to, is_last_denied, unless_denied, hands_head, hands, hands_if, event_at_close, closes, closes_if, handed, closed, each_heard, heard}, Polls.{polled_all, each_polled, polled, may_be_polled, live_consumers}, Rows.{Client, Upstream, Proxy, unused, with_client, with_upstream, Setting}, Starts.{asks, with_holder, started, hears_request, hears, hears_if, is_ready, started_all}, Steps.{with_entry, stepped}, Received.{received_by, received_of, HasSent, IsOpenedFor}, Turns.{turned, turned_by}}
 use Rattle.hc_proxy.specs.Starts as starts
 use Rattle.hc_proxy.proofs.{AnswerNext.{IsAnswerNext, answer_next}, OpenEnded.{never_done}, Turning.{OpenOnly, with_new, with_opened}, DialsHeard.{came_by, new_by, came_more, ended_by, ended_more, is_end, end_is, none_came, among_all, IsCutBy}}
 
-module _ (limits : Limits) (began : Contents) (dialled : List (Option ℕ)) (x : ℕ) where
+module _ (limits : Limits) (began : Setting) (dialled : List (Option ℕ)) (x : ℕ) where
   abbrev pub came : List Called → List ℕ
   came calls = came_by (connection_of dialled x) calls
 
@@ -502,7 +502,8 @@ module _ (limits : Limits) (began : Contents) (dialled : List (Option ℕ)) (x :
 
     starts_on : (k : ℕ) (request : WireRequest) (p : Proxy) → S p → S (started limits k request p)
     starts_on k request p s =
-        other_on (event.Start (p.starts + 1) request.request) (with_holder (p.starts + 1) k (with_client k (asks (p.starts + 1) request) p)) refl refl s
+        other_on (event.Start (p.starts + 1) (asked_of p.setting.front request))
+        (with_holder (p.starts + 1) k (with_client k (asks (p.starts + 1) (reply_to p.setting.front request)) p)) refl refl s
 
     token_on : (k : ℕ) (token : Token) (p : Proxy) → S p → S (hears_request limits k token p)
     token_on k (Asks request) p s = starts_on k request p s

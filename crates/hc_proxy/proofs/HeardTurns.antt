@@ -5,14 +5,14 @@
 -- are carried out, which open the exchange at most once. Among more dials a row is followed as before, since its
 -- connection was dialled among the first (`weaker`).
 use Rattle.std.{proofs.{Common.{◌≡◌, ◌≤◌, ◌<◌, ◌⊎◌, inl, inr, ℕ, List, [], ◌∷◌, ◌++◌, Bool, true, false, Option, Some, None, refl, ap, sym, ◌∙◌, subst, arith, append_assoc, append-nil}, lemmas.Bool.Decides.{nat_tests}}, specs.Prelude.{nat_eq, take, if◌then◌else◌, option_map}}
-use Rattle.hc_effects.proofs.Vocabulary.{Contents, may_begin, is_open, Tables, Limits, event}
+use Rattle.hc_effects.proofs.Vocabulary.{may_begin, is_open, Tables, Limits, event}
 use Rattle.hc_msg.specs.Reading.{Token}
 use Rattle.hc_wire.specs.{Logs.{Called}, declared.event.WireEvent.{WireEvent}}
 use Rattle.hc_wire.specs.declared.event.WireEvent.TheVariants as wire
-use Rattle.hc_proxy.specs.{Asked.{got_by}, Carrying.{carried, acts_in}, Connections.{exchange_of, connection_of}, Handling.{begun, origin_sends, origin_ends, sends, ends, broke, handled_by, handled}, Network.{heard}, Rows.{Upstream, Proxy, unused}, Starts.{started_all}, Steps.{stepped}, Received.{received_of}, Ended.{is_end_of}, Turns.{so_far, happened, turned, turned_by}}
+use Rattle.hc_proxy.specs.{Asked.{got_by}, Carrying.{carried, acts_in}, Connections.{exchange_of, connection_of}, Handling.{begun, origin_sends, origin_ends, sends, ends, broke, handled_by, handled}, Network.{heard}, Rows.{Upstream, Proxy, unused, Setting}, Starts.{started_all}, Steps.{stepped}, Received.{received_of}, Ended.{is_end_of}, Turns.{so_far, happened, turned, turned_by}}
 use Rattle.hc_proxy.proofs.{Folds.{turned_more}, Later.{carried_is_same}, Openings.{StandsKnown, open_more, turn_opens, turns_know, unused_known}, Turning.{OpenOnly, happened_keeps}, DialsHeard.{no_row, place_before, place_after, connection_at, new_by, ended_by, any_last}, HeardRows.{Follows, HasHeard, IsHeard, IsOver, IsReading, IsShut, all_ask, all_polled, carries_on, comes_on, hears_on, leaves_on, more_calls, more_ends, new_of, other_on, passes, still, waits}}
 
-module _ (limits : Limits) (began : Contents) (dialled : List (Option ℕ)) (x : ℕ) where
+module _ (limits : Limits) (began : Setting) (dialled : List (Option ℕ)) (x : ℕ) where
   -- THE EVENT OF A CALL
 
   module _ (ds : List (Option ℕ)) (m : ℕ) (so : ds ≡ take m dialled) (calls : List Called) (call : Called) where
@@ -189,7 +189,7 @@ module _ (limits : Limits) (began : Contents) (dialled : List (Option ℕ)) (x :
   abbrev pub tables_behind : List Called → Proxy
   tables_behind calls = turned_by limits dialled calls (unused began)
 
-  turn_on : may_begin limits began ≡ true → (calls : List Called) (call : Called) → Now calls (tables_behind calls) →
+  turn_on : may_begin limits began.contents ≡ true → (calls : List Called) (call : Called) → Now calls (tables_behind calls) →
       Now (more_calls limits began dialled x calls call) (turned limits dialled call (tables_behind calls))
   unfolding turned
   turn_on may calls call s =
@@ -232,7 +232,7 @@ module _ (limits : Limits) (began : Contents) (dialled : List (Option ℕ)) (x :
         | inr le ↦ absurd (omega arith)
       ]
 
-  pub turns_on : may_begin limits began ≡ true → (rest calls : List Called) → Now calls (tables_behind calls) →
+  pub turns_on : may_begin limits began.contents ≡ true → (rest calls : List Called) → Now calls (tables_behind calls) →
       Now (calls ++ rest) (tables_behind (calls ++ rest))
   turns_on may [] calls s = subst (λ (cs : List Called). Now cs (tables_behind cs)) (sym (append-nil calls)) s
   turns_on may (call ∷ rest) calls s =

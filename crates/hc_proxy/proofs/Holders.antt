@@ -6,10 +6,11 @@
 -- A cancel goes with the client that leaves: its consumer is over, and nobody else holds that.
 use Rattle.std.{proofs.{Common.{◌≡◌, ◌⊎◌, inl, inr, ◌≤◌, ◌<◌, ℕ, ◌+◌, List, [], ◌∷◌, ◌++◌, Bool, true, false, Option, Some, None, refl, ap, sym, ◌∙◌, subst, arith}, lemmas.Bool.Decides.{nat_tests}}, specs.Prelude.{◌||◌, nat_eq, option_map, if◌then◌else◌}}
 use Rattle.hc_text.proofs.Basics.{number_not as apart, or_left, or_right, eq_itself as same_number, some_inj}
-use Rattle.hc_effects.proofs.Vocabulary.{leaves_in, Act, Event, Limits, is_live, live, Entry, Lawful, IsOwed, after, act, event}
-use Rattle.hc_head.specs.declared.message.{MsgError.{MsgError}, WireRequest.{WireRequest}}
+use Rattle.hc_effects.proofs.Vocabulary.{leaves_in, Act, Event, Request, Limits, is_live, live, Entry, Lawful, IsOwed, after, act, event}
+use Rattle.hc_head.specs.declared.message.MsgError.{MsgError}
 use Rattle.hc_msg.specs.Reading.{Reading}
 use Rattle.hc_effects.proofs.PieceKeeps.{eq_cases}
+use Rattle.hc_peers.specs.declared.reply.Reply.{Reply}
 use Rattle.hc_proxy.specs.{Carrying.{acts_in}, Handling.{left, client_sends}, Invariants.{IsHolder, HasConsumers}, Rows.{Client, Proxy, with_client}, Starts.{read_to, asks, with_holder, refused}, Steps.{with_entry}}
 use Rattle.hc_laws.proofs.{Accepted.{starts_live}, LiveAfter.{Starts, was_live}, StaysLive.{stays_live}, WhoLeaves.{cancelled_over}}
 
@@ -262,25 +263,25 @@ module _ (limits : Limits) (p : Proxy) (e : Entry) (law : Lawful p.tables) (is :
   -- A START
 
   -- of a client that waits for nothing, by the next number
-  module _ (k : ℕ) (r : Client) (request : WireRequest) (row : p.client k ≡ Some r) (here : r.gone ≡ false) (none : r.consumer ≡ None)
+  module _ (k : ℕ) (r : Client) (request : Request) (reply : Reply) (row : p.client k ≡ Some r) (here : r.gone ≡ false) (none : r.consumer ≡ None)
       (unshut : r.closing ≡ false) (last : p.tables.last_start ≤ p.starts) (few : live p.tables < 1024)
-      (at : e.event ≡ event.Start (p.starts + 1) request.request) (h : HasConsumers p) where
+      (at : e.event ≡ event.Start (p.starts + 1) request) (h : HasConsumers p) where
     abbrev c : ℕ
     c = p.starts + 1
 
     abbrev asked : Proxy
-    asked = with_holder c k (with_client k (asks c request) p)
+    asked = with_holder c k (with_client k (asks c reply) p)
 
     abbrev begun_now : Proxy
     begun_now = with_entry e asked
 
     own : IsHolder begun_now k c
     unfolding with_entry
-    own = record { row = asks c request r; at = changed_here k (asks c request) p r row; here = here; consumer = refl }
+    own = record { row = asks c reply r; at = changed_here k (asks c reply) p r row; here = here; consumer = refl }
 
     begun_on : (j d : ℕ) → IsHolder p j d → IsHolder begun_now j d
     unfolding with_entry
-    begun_on j d u = record { row = u.row; at = changed_off k (asks c request) p j other ∙ u.at; here = u.here; consumer = u.consumer }
+    begun_on j d u = record { row = u.row; at = changed_off k (asks c reply) p j other ∙ u.at; here = u.here; consumer = u.consumer }
       where
         other : j ≡ k → ⊥
         other same =
@@ -290,7 +291,7 @@ module _ (limits : Limits) (p : Proxy) (e : Entry) (law : Lawful p.tables) (is :
     -- it is that one, or it was before
     begun_back : (j d : ℕ) → IsHolder begun_now j d → ((j ≡ k) × (d ≡ c)) ⊎ (IsHolder p j d × (j ≡ k → ⊥))
     unfolding with_entry
-    begun_back j d u = elim (changed_row k (asks c request) p j u.row u.at) as (λ _. ((j ≡ k) × (d ≡ c)) ⊎ (IsHolder p j d × (j ≡ k → ⊥))) [
+    begun_back j d u = elim (changed_row k (asks c reply) p j u.row u.at) as (λ _. ((j ≡ k) × (d ≡ c)) ⊎ (IsHolder p j d × (j ≡ k → ⊥))) [
       | inr off ↦ inr (record { row = u.row; at = off.0; here = u.here; consumer = u.consumer }, off.1)
       | inl z ↦ inl (z.same, some_inj d c (sym u.consumer ∙ ap (λ (q : Client). q.consumer) z.is))
     ]
@@ -325,13 +326,13 @@ module _ (limits : Limits) (p : Proxy) (e : Entry) (law : Lawful p.tables) (is :
     unfolding with_entry
     begun_alive j d u = elim (begun_back j d u) as (λ _. IsAlive (acts_in begun_now.part) begun_now d) [
       | inl new ↦ inl (ap (λ (n : ℕ). is_live ((after p.tables e).consumer n)) new.1 ∙
-          starts_live limits p.tables e is c request.request at (omega arith) few new_row)
-      | inr old ↦ alive_behind d (λ cancels. let never : event.Start c request.request ≡ event.Cancel d = sym at ∙ cancels in cc) (h.alive j d old.0)
+          starts_live limits p.tables e is c request at (omega arith) few new_row)
+      | inr old ↦ alive_behind d (λ cancels. let never : event.Start c request ≡ event.Cancel d = sym at ∙ cancels in cc) (h.alive j d old.0)
     ]
 
     begun_idle : (j : ℕ) (z : Client) → begun_now.client j ≡ Some z → z.closing ≡ true → z.consumer ≡ None
     unfolding with_entry
-    begun_idle j z is_row closing = elim (changed_row k (asks c request) p j z is_row) as (λ _. z.consumer ≡ None) [
+    begun_idle j z is_row closing = elim (changed_row k (asks c reply) p j z is_row) as (λ _. z.consumer ≡ None) [
       | inr off ↦ h.idle j z off.0 closing
       | inl u ↦ absurd (let same : u.old ≡ r = some_inj u.old r (sym u.at ∙ (ap p.client u.same ∙ row)) in let never : false ≡ true = sym unshut ∙
           (ap (λ (q : Client). q.closing) (sym same) ∙ (ap (λ (q : Client). q.closing) (sym u.is) ∙ closing)) in cc)

@@ -37,14 +37,14 @@ module _ {B : Type 0} {g : Ghosts B} (t : Turn) (z : ℕ) (x x' : loop.Proxy B g
   pub hung_up : KeepsQuiet t x' p
   hung_up = record {
     keeps = record {
-      cache = cache_moves t.frame x x' p u.cache u.text u.now u.starts h.cache;
+      cache = cache_moves t.frame x x' p u.cache u.text u.now u.starts u.front h.cache;
       acts = ap act_list u.acts ∙ h.acts;
       clients = clients_move t x x' p u.clients h.clients;
       consumers = h.consumers;
       upstreams = hung_upstreams;
       wire = wire_left t z x x' p shut u h.clients ups.numbers ups.names ups.strangers h.wire;
-      numbers = subst (λ c. p.starts ≤ p.contents.last_consumer + steps c) (sym u.cache) h.numbers;
-      opened = subst (λ c. p.tables.opened ≤ p.contents.next_exchange + steps c) (sym u.cache) h.opened;
+      numbers = subst (λ c. p.starts ≤ p.setting.contents.last_consumer + steps c) (sym u.cache) h.numbers;
+      opened = subst (λ c. p.tables.opened ≤ p.setting.contents.next_exchange + steps c) (sym u.cache) h.opened;
       seen = h.seen;
       shut = h.shut;
       known = known_left t z x x' p shut u h.clients ups.numbers ups.names ups.strangers h.wire h.known;

@@ -9,6 +9,7 @@ use Rattle.hc_effects.proofs.Vocabulary.{Event, Limits, event}
 use Rattle.hc_head.specs.declared.message.WireRequest.{WireRequest}
 use Rattle.hc_msg.specs.{Inputs.{Next, Waits, Reports, Brings, Ends, Fails, next_in}, Reading.{Failed, Token, Asks, Answers, Byte}}
 use Rattle.hc_wire.specs.Logs.{Called}
+use Rattle.hc_peers.specs.Renderings.{asked_of, reply_to}
 use Rattle.hc_proxy.specs.{Polls.{may_be_polled, polled, each_polled}, Rows.{Client, Proxy, with_client}, Starts.{read_to, asks, with_holder, started, refused, hears_request, hears, hears_if, is_ready}, Steps.{with_entry, stepped}}
 use Rattle.hc_proxy.specs.Starts as starts
 use Rattle.hc_proxy.proofs.SkippedSteps.{IsSkipped, each}
@@ -39,8 +40,9 @@ module _ (limits : Limits) (call : Called) where
 
     starts_apart : (request : WireRequest) (p : Proxy) → Apart k p (started limits z request p)
     starts_apart request p =
-        let q = with_client z (asks (p.starts + 1) request) p in
-        step_apart k (event.Start (p.starts + 1) request.request) (with_holder (p.starts + 1) z q) ∙ changes (asks (p.starts + 1) request) p
+        let q = with_client z (asks (p.starts + 1) (reply_to p.setting.front request)) p in
+        step_apart k (event.Start (p.starts + 1) (asked_of p.setting.front request)) (with_holder (p.starts + 1) z q)
+        ∙ changes (asks (p.starts + 1) (reply_to p.setting.front request)) p
 
     token_apart : (token : Token) (p : Proxy) → Apart k p (hears_request limits z token p)
     token_apart (Asks request) p = starts_apart request p

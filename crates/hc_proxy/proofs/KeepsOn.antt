@@ -169,8 +169,8 @@ module _ {B : Type 0} {g : Ghosts B} where
   pub keeps_on : (t : Turn) (x x' : loop.Proxy B g) (ev : Event) (p : Proxy) → Stands t.frame.limits p →
       ((y : ℕ) → p.tables.opened < y → p.upstream y ≡ None) → HasActs x p → HasClients t x p → HasUpstreams t x p (acts_in p.part) → AtWire t.stages x →
       AreSeen t p → AreClosed (acts_in p.part) p.tables → AreKnown t x → (s : Stepped t.frame x x' ev p) → RestStays x x' →
-      ((y : ℕ) → Stops y s.e.event → ⊥) → HasConsumers (with_entry s.e p) → p.starts ≤ p.contents.last_consumer + steps x'.cache →
-      p.tables.opened + 1 ≤ p.contents.next_exchange + steps x'.cache → Keeps t x' (with_entry s.e p)
+      ((y : ℕ) → Stops y s.e.event → ⊥) → HasConsumers (with_entry s.e p) → p.starts ≤ p.setting.contents.last_consumer + steps x'.cache →
+      p.tables.opened + 1 ≤ p.setting.contents.next_exchange + steps x'.cache → Keeps t x' (with_entry s.e p)
   unfolding with_entry
   keeps_on t x x' ev p stands unopened acts clients upstreams wire seen shut known s rest none consumers numbers opened =
       let on = upstreams_on t x p (acts_in p.part) stands unopened upstreams s.e s.is_owed none in

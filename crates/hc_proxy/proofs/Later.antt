@@ -4,10 +4,10 @@
 -- its number is new. The rows of connections to the origin are owed their request from the first on, and only an
 -- exchange that is opened replaces a row. So for those it is asked which exchanges the acts open.
 use Rattle.std.{proofs.{Common.{◌≡◌, ℕ, Bool, true, false, List, [], ◌∷◌, ◌++◌, Option, Some, None, refl, ap, sym, ◌∙◌, arith, length, append_assoc, append-nil}, lemmas.Bool.Decides.{nat_tests}}, specs.Prelude.{nat_eq, map, reverse, ◌||◌, if◌then◌else◌, option_map}}
-use Rattle.hc_effects.proofs.Vocabulary.{Act, Contents, Entry, History, Limits}
+use Rattle.hc_effects.proofs.Vocabulary.{Act, Entry, History, Limits}
 use Rattle.hc_peers.specs.Renderings.{rendering, empty_answer, error_status, form_behind, is_last, closes}
 use Rattle.hc_wire.specs.Logs.{Called}
-use Rattle.hc_proxy.specs.{Carrying.{answered, carried, acts_in}, Connections.{stands}, Handling.{begun, seen_at}, Rows.{Client, Upstream, Proxy}, Steps.{with_entry}, Turns.{so_far, happened, turned, turned_by, record_of, timed_of, text_behind}}
+use Rattle.hc_proxy.specs.{Carrying.{answered, carried, acts_in}, Connections.{stands}, Handling.{begun, seen_at}, Rows.{Client, Upstream, Proxy, Setting}, Steps.{with_entry}, Turns.{so_far, happened, turned, turned_by, record_of, timed_of, text_behind}}
 use Rattle.hc_proxy.proofs.Turning.{IsChange, IsOriginChange, IsKept, IsCarried, OpenOnly, carried_keeps, open_any, turned_keeps}
 use Rattle.hc_proxy.proofs.Turning as kinds
 
@@ -138,7 +138,7 @@ module _ (limits : Limits) (k : ℕ) where
 
 -- all but rows of clients and of connections to the origin
 pub record IsSame (p q : Proxy) : Type 0 where
-  pub contents : q.contents ≡ p.contents
+  pub setting : q.setting ≡ p.setting
   pub tables : q.tables ≡ p.tables
   pub history : q.history ≡ p.history
   pub part : q.part ≡ p.part
@@ -149,7 +149,7 @@ pub record IsSame (p q : Proxy) : Type 0 where
 
 same_both : (p q r : Proxy) → IsSame p q → IsSame q r → IsSame p r
 same_both p q r a b = record {
-  contents = b.contents ∙ a.contents;
+  setting = b.setting ∙ a.setting;
   tables = b.tables ∙ a.tables;
   history = b.history ∙ a.history;
   part = b.part ∙ a.part;
@@ -161,11 +161,11 @@ same_both p q r a b = record {
 
 kept_out : IsCarried (λ x. Unit {0}) IsSame
 kept_out = record {
-  none = λ p. record { contents = refl; tables = refl; history = refl; part = refl; moment = refl; starts = refl; accepted = refl; holder = refl };
+  none = λ p. record { setting = refl; tables = refl; history = refl; part = refl; moment = refl; starts = refl; accepted = refl; holder = refl };
   both = same_both;
-  answers = λ k a p. record { contents = refl; tables = refl; history = refl; part = refl; moment = refl; starts = refl; accepted = refl; holder = refl };
+  answers = λ k a p. record { setting = refl; tables = refl; history = refl; part = refl; moment = refl; starts = refl; accepted = refl; holder = refl };
   opens = λ x request p may. record {
-    contents = refl;
+    setting = refl;
     tables = refl;
     history = refl;
     part = refl;
@@ -184,8 +184,8 @@ carried_is_same p = carried_keeps (λ x. Unit {0}) IsSame kept_out p (open_any (
 pub record_carried : (q : Proxy) → record_of (carried q) ≡ record_of q
 record_carried q =
     let same = carried_is_same q in
-    ap (λ (d : Contents). text_behind d.now (map timed_of (reverse (carried q).history))) same.contents
-    ∙ ap (λ (h : History). text_behind q.contents.now (map timed_of (reverse h))) same.history
+    ap (λ (d : Setting). text_behind d.contents.now (map timed_of (reverse (carried q).history))) same.setting
+    ∙ ap (λ (h : History). text_behind q.setting.contents.now (map timed_of (reverse h))) same.history
 
 -- CONNECTIONS TO THE ORIGIN
 

@@ -139,7 +139,7 @@ module _ {B : Type 0} {g : Ghosts B} (t : Turn) (x : loop.Proxy B g) (p : Proxy)
 
   module _ (client : peer.Client) (is_row : client_of x.clients k ≡ Some client) (c : ℕ) (waits : client.consumer ≡ Some c) (mid : loop.Proxy B g)
       (st : Stepped t.frame x mid (event.Cancel c) p) (cs : mid.clients ≡ s) (us : mid.upstreams ≡ x.upstreams)
-      (vs : mid.closed.items ≡ x.closed.items ++ k ∷ []) (rest_now : mid.now ≡ x.now) (rest_starts : mid.starts ≡ x.starts)
+      (vs : mid.closed.items ≡ x.closed.items ++ k ∷ []) (rest_now : mid.now ≡ x.now) (rest_starts : mid.starts ≡ x.starts) (rest_front : mid.front ≡ x.front)
       (rest_round : mid.round ≡ x.round) (moved : mid.moved ≡ true) (one : steps mid.cache ≡ steps x.cache + 1) where
     -- the same with the client that is gone
     abbrev still : loop.Proxy B g
@@ -152,13 +152,13 @@ module _ {B : Type 0} {g : Ghosts B} (t : Turn) (x : loop.Proxy B g) (p : Proxy)
       event_is = st.event_is;
       is_owed = st.is_owed;
       acts = st.acts;
-      cache = cache_moves t.frame mid still (with_entry st.e p) refl refl refl refl st.cache;
+      cache = cache_moves t.frame mid still (with_entry st.e p) refl refl refl refl refl st.cache;
       later = st.later;
       same = st.same;
     }
 
     rest_still : RestStays x still
-    rest_still = record { now = rest_now; starts = rest_starts; clients = refl; upstreams = us; closed = refl; round = rest_round }
+    rest_still = record { now = rest_now; starts = rest_starts; front = rest_front; clients = refl; upstreams = us; closed = refl; round = rest_round }
 
     beside : (z : ℕ) → HasUpstreamsBut z t still (with_entry st.e p) (acts_in p.part ++ st.e.acts)
     beside z = but_upstreams z t x still p (event.Cancel c) (but_it z t x p h.quiet) st_still rest_still refl (λ y stops. absurd stops)
@@ -215,9 +215,9 @@ module _ {B : Type 0} {g : Ghosts B} (t : Turn) (x : loop.Proxy B g) (p : Proxy)
                   (row_was t x p k None left s becomes (left_change (taken_at t.call k) (client_of x.clients k) (p.client k)) j some);
             };
             wire = gone_wire mid cs us vs;
-            numbers = (let a : p.starts ≤ p.contents.last_consumer + steps x.cache = h.quiet.keeps.numbers in
+            numbers = (let a : p.starts ≤ p.setting.contents.last_consumer + steps x.cache = h.quiet.keeps.numbers in
                 let b : steps mid.cache ≡ steps x.cache + 1 = one in omega arith);
-            opened = (let a : p.tables.opened ≤ p.contents.next_exchange + steps x.cache = h.quiet.keeps.opened in
+            opened = (let a : p.tables.opened ≤ p.setting.contents.next_exchange + steps x.cache = h.quiet.keeps.opened in
                 let b : steps mid.cache ≡ steps x.cache + 1 = one in
                 let d : (after p.tables st.e).opened ≡ p.tables.opened =
                 opened_same 0 t x still p (event.Cancel c) (but_it 0 t x p h.quiet) st_still rest_still refl (λ y stops. absurd stops) in omega arith);
@@ -244,6 +244,7 @@ module _ {B : Type 0} {g : Ghosts B} (t : Turn) (x : loop.Proxy B g) (p : Proxy)
   module _ (client : peer.Client) (is_row : client_of x.clients k ≡ Some client) (idle : client.consumer ≡ None) (x' : loop.Proxy B g)
       (cs : x'.clients ≡ s) (us : x'.upstreams ≡ x.upstreams) (vs : x'.closed.items ≡ x.closed.items ++ k ∷ []) (cache_is : x'.cache ≡ x.cache)
       (text_is : x'.record ≡ x.record) (acts_is : x'.acts ≡ x.acts) (now_is : x'.now ≡ x.now) (starts_are : x'.starts ≡ x.starts)
+      (front_is : x'.front ≡ x.front)
       (moved_is : x'.moved ≡ x.moved) where
     row_by : (o : Option peer.Client) (r : Option Client) → IsClientAt (taken_at t.call k) o r → o ≡ Some client → (z : Client) × (r ≡ Some z) ×
         (z.gone ≡ false) × (z.consumer ≡ None)
@@ -265,7 +266,7 @@ module _ {B : Type 0} {g : Ghosts B} (t : Turn) (x : loop.Proxy B g) (p : Proxy)
     idle_keeps : KeepsQuiet t x' (with_client k left p)
     idle_keeps = record {
       keeps = record {
-        cache = cache_moves t.frame x x' (with_client k left p) cache_is text_is now_is starts_are
+        cache = cache_moves t.frame x x' (with_client k left p) cache_is text_is now_is starts_are front_is
             (cache_with t.frame x p (with_client k left p).client p.accepted h.quiet.keeps.cache);
         acts = ap act_list acts_is ∙ h.quiet.keeps.acts;
         clients = clients_move t (record x { clients = s }) x' (with_client k left p) cs gone_clients;
@@ -274,8 +275,8 @@ module _ {B : Type 0} {g : Ghosts B} (t : Turn) (x : loop.Proxy B g) (p : Proxy)
             (λ j some. row_was t x p k None left s becomes (left_change (taken_at t.call k) (client_of x.clients k) (p.client k)) j some)
             h.quiet.keeps.upstreams);
         wire = gone_wire x' cs us vs;
-        numbers = subst (λ c. p.starts ≤ p.contents.last_consumer + steps c) (sym cache_is) h.quiet.keeps.numbers;
-        opened = subst (λ c. p.tables.opened ≤ p.contents.next_exchange + steps c) (sym cache_is) h.quiet.keeps.opened;
+        numbers = subst (λ c. p.starts ≤ p.setting.contents.last_consumer + steps c) (sym cache_is) h.quiet.keeps.numbers;
+        opened = subst (λ c. p.tables.opened ≤ p.setting.contents.next_exchange + steps c) (sym cache_is) h.quiet.keeps.opened;
         seen = seen_still t x p k None left s becomes (left_change (taken_at t.call k) (client_of x.clients k) (p.client k)) t.stages t.dialled
             h.quiet.keeps.seen;
         shut = h.quiet.keeps.shut;
@@ -302,11 +303,11 @@ module _ {B : Type 0} {g : Ghosts B} (t : Turn) (x : loop.Proxy B g) (p : Proxy)
       y.closed.items ≡ x.closed.items ++ k ∷ []
       → Goes (KeepsQuiet t) (faults_in x.cache) mid (client_leaves t.frame.limits k p)
   leave_by client c y mid is_row waits stepped rest moved one items =
-      let st = stepped t.frame p (cache_moves t.frame x (record x { clients = s; closed = y.closed }) p refl refl refl refl h.quiet.keeps.cache)
+      let st = stepped t.frame p (cache_moves t.frame x (record x { clients = s; closed = y.closed }) p refl refl refl refl refl h.quiet.keeps.cache)
       (let all : unread p + bytes_received x.cache ≤ t.frame.bytes = h.quiet.keeps.cache.small in omega arith) in
       leave_goes client is_row c waits mid
       (record { e = st.e; now = st.now; event_is = st.event_is; is_owed = st.is_owed; acts = st.acts; cache = st.cache; later = st.later; same = st.same })
-      rest.clients rest.upstreams (ap (λ v. v.items) rest.closed ∙ items) rest.now rest.starts rest.round moved one
+      rest.clients rest.upstreams (ap (λ v. v.items) rest.closed ∙ items) rest.now rest.starts rest.front rest.round moved one
 
   none_by : (o : Option ℕ) → ((c : ℕ) → o ≡ Some c → ⊥) → o ≡ None
   none_by None un = refl
@@ -316,4 +317,4 @@ module _ {B : Type 0} {g : Ghosts B} (t : Turn) (x : loop.Proxy B g) (p : Proxy)
       y.closed.items ≡ x.closed.items ++ k ∷ []
       → Goes (KeepsQuiet t) (faults_in x.cache) (record x { clients = s; closed = y.closed }) (client_leaves t.frame.limits k p)
   idle_by client y is_row un items =
-      idle_goes client is_row (none_by client.consumer un) (record x { clients = s; closed = y.closed }) refl refl items refl refl refl refl refl refl
+      idle_goes client is_row (none_by client.consumer un) (record x { clients = s; closed = y.closed }) refl refl items refl refl refl refl refl refl refl

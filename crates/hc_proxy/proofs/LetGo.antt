@@ -5,10 +5,10 @@
 -- another.
 use Rattle.std.{proofs.Common.{◌≡◌, ℕ, Bool, true, false, List, [], ◌∷◌, ◌++◌, length, Option, Some, None, refl, ap, sym, ◌∙◌}, specs.Prelude.{nat_eq, ◌||◌, if◌then◌else◌, option_map}}
 use Rattle.hc_text.proofs.Basics.{some_inj as some_is}
-use Rattle.hc_effects.proofs.Vocabulary.{Act, Entry, Limits, Contents}
+use Rattle.hc_effects.proofs.Vocabulary.{Act, Entry, Limits}
 use Rattle.hc_peers.specs.Renderings.{rendering, form_behind, is_last, closes}
 use Rattle.hc_wire.specs.Logs.{Called}
-use Rattle.hc_proxy.specs.{Carrying.{answered, carried, acts_in}, Connections.{stands}, Handling.{begun, seen_at}, Rows.{Client, Proxy, new_client, unused}, Steps.{with_entry}, Turns.{so_far, happened, turned, turned_by}}
+use Rattle.hc_proxy.specs.{Carrying.{answered, carried, acts_in}, Connections.{stands}, Handling.{begun, seen_at}, Rows.{Client, Proxy, new_client, unused, Setting}, Steps.{with_entry}, Turns.{so_far, happened, turned, turned_by}}
 use Rattle.hc_proxy.proofs.Turning.{IsChange, IsKept, IsCarried, happened_keeps, carried_keeps, open_any}
 use Rattle.hc_proxy.proofs.Turning as kinds
 
@@ -136,5 +136,5 @@ pub turns_gone : (limits : Limits) (dialled : List (Option ℕ)) (calls : List C
 turns_gone limits dialled [] p gone = gone
 turns_gone limits dialled (call ∷ calls) p gone = turns_gone limits dialled calls (turned limits dialled call p) (turn_gone limits dialled call p gone)
 
-pub unused_gone : (c : Contents) → AreGone (unused c)
+pub unused_gone : (c : Setting) → AreGone (unused c)
 unused_gone c k r row is = absurd (let never : None ≡ Some r = row in cc)

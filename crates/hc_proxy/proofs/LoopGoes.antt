@@ -9,7 +9,7 @@ use Rattle.hc_text.proofs.Basics.{both_true as both_hold, or_left, or_right}
 use Rattle.hc_core.specs.{declared.cache.Cache.{Cache}, Steps.{steps, faults_in, limits_in, bytes_received}}
 use Rattle.hc_io.specs.Sink.{Takes}
 use Rattle.hc_io.proofs.Takings.{takes_more as takes_both, takes_none}
-use Rattle.hc_effects.proofs.Vocabulary.{Contents, may_begin, is_open, tables, Limits}
+use Rattle.hc_effects.proofs.Vocabulary.{may_begin, is_open, tables, Limits}
 use Rattle.hc_peers.specs.{Clients.{client_of}, Upstreams.{upstream_of}}
 use Rattle.hc_peers.specs.declared.client.Client as peer
 use Rattle.hc_peers.specs.declared.upstream.Upstream as origin
@@ -19,7 +19,7 @@ use Rattle.hc_store.specs.declared.backend.Backend.{Ghosts}
 use Rattle.hc_wire.specs.{Events.{Stage, Unseen}, Logs.{Log, Taker, Called, empty_log, is_numbered, is_at_end, shut, standings_in, stage_from, stage_in, sent_in}}
 use Rattle.hc_wire.specs.declared.event.WireEvent.TheVariants as event
 use Rattle.hc_proxy.specs.declared.proxy.Proxy as loop
-use Rattle.hc_proxy.specs.{declared.stop.Stop.{Stop}, Connections.{dials_from, dials_in, connection_of, taken_at}, Endings.{IsLog, IsFresh, Serves, TakesTurns, was_sent}, Keeping.{Frame, IsStocked, IsUnused, HasUpstreams, IsUpstream, IsUpstreamAt}, Logging.{AreApart, short_from, is_short}, Loops.{AllFit}, Network.{open_exchanges, heard}, Records.{text_of}, Resting.{IsRestingClient, IsRestingAt, Rests}, Rows.{Client, Upstream, Proxy, unused}, Sending.{owed_by, is_taken, client_is_sent, taker_of, exchange_is_sent, all_is_sent}, Serving.{IsOfLoop, IsCutShort, IsStill, Begins, TurnsTo, TurnStops, EndsBy, IsClosed, all_closed}, Stops.{ended_as, ended_by}, Turns.{turned_by, behind_all, behind_calls, record_of}, Waiting.{waits}, Served.{ServesWith}}
+use Rattle.hc_proxy.specs.{declared.stop.Stop.{Stop}, Connections.{dials_from, dials_in, connection_of, taken_at}, Endings.{IsLog, IsFresh, Serves, TakesTurns, was_sent}, Keeping.{Frame, IsStocked, IsUnused, HasUpstreams, IsUpstream, IsUpstreamAt}, Logging.{AreApart, short_from, is_short}, Loops.{AllFit}, Network.{open_exchanges, heard}, Records.{text_of}, Resting.{IsRestingClient, IsRestingAt, Rests}, Rows.{Client, Upstream, Proxy, unused, Setting}, Sending.{owed_by, is_taken, client_is_sent, taker_of, exchange_is_sent, all_is_sent}, Serving.{IsOfLoop, IsCutShort, IsStill, Begins, TurnsTo, TurnStops, EndsBy, IsClosed, all_closed}, Stops.{ended_as, ended_by}, Turns.{turned_by, behind_all, behind_calls, record_of}, Waiting.{waits}, Served.{ServesWith}}
 use Rattle.hc_proxy.specs.declared.stop.Stop.TheVariants as stop
 use Rattle.hc_proxy.proofs.{Fitting.{all_reversed, opened_within}, Rows.{sent_all}, Stands.{loops_are_runs}, TakersStand.{open_taker, sent_found, taken_found}}
 use Rattle.hc_state.proofs.LeftRows.{all_passing}
@@ -27,7 +27,7 @@ use Rattle.hc_state.proofs.LeftRows.{all_passing}
 -- WHAT A SINK TOOK
 
 -- all of the record was taken, and nothing is lacking of the last turn's
-whole_turns : (limits : Limits) (c : Contents) (log : Log) (out out' : Option (List ℕ)) → Takes out out' (record_of (behind_all limits c log)) →
+whole_turns : (limits : Limits) (c : Setting) (log : Log) (out out' : Option (List ℕ)) → Takes out out' (record_of (behind_all limits c log)) →
     TakesTurns limits c log out out'
 whole_turns limits c log out out' takes =
     let all : behind_calls limits c log (length log.calls) ≡ behind_all limits c log =
@@ -44,7 +44,7 @@ whole_turns limits c log out out' takes =
 
 -- BETWEEN TURNS
 
-pub record IsTurning {B : Type 0} {g : Ghosts B} (n m : ℕ) (limits : Limits) (contents : Contents) (before : Log) (x : loop.Proxy B g) (reported : Option Log)
+pub record IsTurning {B : Type 0} {g : Ghosts B} (n m : ℕ) (limits : Limits) (setting : Setting) (before : Log) (x : loop.Proxy B g) (reported : Option Log)
     (stages : ℕ → Stage) (out out' : Option (List ℕ)) (wait : Bool) : Type 0 where
   pub f : Frame
   pub p : Proxy
@@ -52,18 +52,18 @@ pub record IsTurning {B : Type 0} {g : Ghosts B} (n m : ℕ) (limits : Limits) (
   pub still : IsStill n f x p log reported stages
   pub wait_is : wait ≡ waits f.limits p
   pub limits_are : f.limits ≡ limits
-  pub contents_are : f.contents ≡ contents
+  pub contents_are : f.setting ≡ setting
   pub takes : Takes out out' f.written
   pub bound : log.bound ≡ before.bound
   pub calls : length log.calls ≡ m
-  pub of_loop : IsOfLoop f.limits f.contents log p
+  pub of_loop : IsOfLoop f.limits f.setting log p
 
 -- nothing happened yet, so the first call waits
-pub first_waits : (limits : Limits) (c : Contents) → true ≡ waits limits (unused c)
+pub first_waits : (limits : Limits) (c : Setting) → true ≡ waits limits (unused c)
 unfolding heard tables
 first_waits limits c = refl
 
-fresh_of_loop : (limits : Limits) (c : Contents) (log : Log) → IsFresh log → IsOfLoop limits c log (unused c)
+fresh_of_loop : (limits : Limits) (c : Setting) (log : Log) → IsFresh log → IsOfLoop limits c log (unused c)
 fresh_of_loop limits c log fresh = record {
   fit = subst (AllFit limits (dials_from c log.dialled) (unused c)) (sym fresh.calls) tt;
   tables = sym (ap (λ cs. turned_by limits (dials_from c log.dialled) cs (unused c)) fresh.calls);
@@ -72,27 +72,27 @@ fresh_of_loop limits c log fresh = record {
 
 module _ {B : Type 0} {g : Ghosts B} where
   pub turning_begins : (n : ℕ) (f : Frame) (x : loop.Proxy B g) (before : Log) (reported : Option Log) (stages : ℕ → Stage) (out : Option (List ℕ)) →
-      Begins n f x before reported stages → IsTurning n 0 f.limits f.contents before x reported stages out out true
+      Begins n f x before reported stages → IsTurning n 0 f.limits f.setting before x reported stages out out true
   turning_begins n f x before reported stages out b = record {
     f = f;
-    p = unused f.contents;
+    p = unused f.setting;
     log = before;
     still = b.still;
-    wait_is = first_waits f.limits f.contents;
+    wait_is = first_waits f.limits f.setting;
     limits_are = refl;
     contents_are = refl;
     takes = subst (Takes out out) (sym b.unwritten) (takes_none out);
     bound = refl;
     calls = ap length b.fresh.calls;
-    of_loop = fresh_of_loop f.limits f.contents before b.fresh;
+    of_loop = fresh_of_loop f.limits f.setting before b.fresh;
   }
 
-  module _ (n m : ℕ) (limits : Limits) (contents : Contents) (before : Log) (x : loop.Proxy B g) (reported : Option Log) (stages : ℕ → Stage)
-      (out out' : Option (List ℕ)) (wait : Bool) (t : IsTurning n m limits contents before x reported stages out out' wait) where
+  module _ (n m : ℕ) (limits : Limits) (setting : Setting) (before : Log) (x : loop.Proxy B g) (reported : Option Log) (stages : ℕ → Stage)
+      (out out' : Option (List ℕ)) (wait : Bool) (t : IsTurning n m limits setting before x reported stages out out' wait) where
     -- one more turn
     pub turning_on : (n' : ℕ) (x' : loop.Proxy B g) (reported' : Option Log) (stages' : ℕ → Stage) (new : Option (List ℕ)) (again : Bool) →
         TurnsTo n' t.f t.p t.log x x' reported' stages' out' new again → faults_in x'.cache ≡ faults_in x.cache
-        → IsTurning n' (m + 1) limits contents before x' reported' stages' out new again
+        → IsTurning n' (m + 1) limits setting before x' reported' stages' out new again
     turning_on n' x' reported' stages' new again to none = record {
       f = to.f';
       p = to.p';
@@ -100,13 +100,13 @@ module _ {B : Type 0} {g : Ghosts B} where
       still = to.still;
       wait_is = to.again_is ∙ ap (λ l. waits l to.p') (sym to.limits);
       limits_are = to.limits ∙ t.limits_are;
-      contents_are = to.contents ∙ t.contents_are;
+      contents_are = to.setting ∙ t.contents_are;
       takes = subst (Takes out new) (sym to.written) (takes_both out out' new t.f.written to.text t.takes to.takes);
       bound = to.bound ∙ t.bound;
       calls = let a = to.calls in let b = t.calls in omega arith;
       of_loop =
-          subst (λ (d : Contents). IsOfLoop to.f'.limits d to.log' to.p') (sym to.contents)
-          (subst (λ l. IsOfLoop l t.f.contents to.log' to.p') (sym to.limits) (to.goes none t.of_loop));
+          subst (λ (d : Setting). IsOfLoop to.f'.limits d to.log' to.p') (sym to.setting)
+          (subst (λ l. IsOfLoop l t.f.setting to.log' to.p') (sym to.limits) (to.goes none t.of_loop));
     }
 
     record_so : record_of t.p ≡ t.f.written
@@ -114,8 +114,8 @@ module _ {B : Type 0} {g : Ghosts B} where
 
     -- WHERE IT ENDS
 
-    by_stop : (turns : ℕ) (log : Log) (new : Option (List ℕ)) (e : Stop) → IsLog limits contents log → length log.calls ≤ turns →
-        TakesTurns limits contents log out new → Serves limits contents turns log out new (ended_by e)
+    by_stop : (turns : ℕ) (log : Log) (new : Option (List ℕ)) (e : Stop) → IsLog limits setting log → length log.calls ≤ turns →
+        TakesTurns limits setting log out new → Serves limits setting turns log out new (ended_by e)
     by_stop turns log new stop.SinkFailed is few front = Serves.unwritten is few front
     by_stop turns log new stop.WireFailed is few front = Serves.unwired is few front
     by_stop turns log new stop.NoMemory is few front = Serves.wanting is few front
@@ -124,13 +124,13 @@ module _ {B : Type 0} {g : Ghosts B} where
     pub turning_stops : (turns : ℕ) (x' : loop.Proxy B g) (reported' : Option Log) (new : Option (List ℕ)) (P : Stop → Type 0)
         (result : Result (Unit {0}) Stop) → IsErrAnd result P → m < turns → TurnStops t.f t.p t.log x x' reported' out' new → faults_in
         x'.cache ≡ faults_in x.cache
-        → EndsBy limits contents turns before reported' out new (ended_as result)
+        → EndsBy limits setting turns before reported' out new (ended_as result)
     turning_stops turns x' reported' new P (Ok done) stops less cut none = absurd stops
     turning_stops turns x' reported' new P (Err e) stops less cut none =
         let c = cut.goes none t.of_loop in
-        let c' : IsCutShort limits contents cut.log' t.f.written out' new =
-        subst (λ (d : Contents). IsCutShort limits d cut.log' t.f.written out' new) t.contents_are
-        (subst (λ l. IsCutShort l t.f.contents cut.log' t.f.written out' new) t.limits_are c) in
+        let c' : IsCutShort limits setting cut.log' t.f.written out' new =
+        subst (λ (d : Setting). IsCutShort limits d cut.log' t.f.written out' new) t.contents_are
+        (subst (λ l. IsCutShort l t.f.setting cut.log' t.f.written out' new) t.limits_are c) in
         record {
           log' = cut.log';
           reported_is = cut.reported_is;
@@ -148,36 +148,36 @@ module _ {B : Type 0} {g : Ghosts B} where
               });
         }
 
-    places_now : length (dials_from t.f.contents t.log.dialled) ≡ t.p.tables.opened
-    places_now = ap (λ (d : Contents). length (dials_from d t.log.dialled)) (sym t.still.rests.cache.contents) ∙ t.still.rests.opened
+    places_now : length (dials_from t.f.setting t.log.dialled) ≡ t.p.tables.opened
+    places_now = ap (λ (d : Setting). length (dials_from d t.log.dialled)) (sym t.still.rests.cache.setting) ∙ t.still.rests.opened
 
-    is_log_so : IsLog t.f.limits t.f.contents t.log
+    is_log_so : IsLog t.f.limits t.f.setting t.log
     is_log_so = record {
       fit = t.of_loop.fit;
-      sent = subst (λ (r : Proxy). list_all (was_sent (dials_from t.f.contents t.log.dialled) r) t.log.takers ≡ true) t.of_loop.tables t.of_loop.sent;
+      sent = subst (λ (r : Proxy). list_all (was_sent (dials_from t.f.setting t.log.dialled) r) t.log.takers ≡ true) t.of_loop.tables t.of_loop.sent;
       dialled =
           let same = places_now in
-          subst (λ (r : Proxy). length (dials_from t.f.contents t.log.dialled) ≤ r.tables.opened) t.of_loop.tables (omega arith);
+          subst (λ (r : Proxy). length (dials_from t.f.setting t.log.dialled) ≤ r.tables.opened) t.of_loop.tables (omega arith);
     }
 
-    is_log_now : IsLog limits contents t.log
-    is_log_now = subst (λ (d : Contents). IsLog limits d t.log) t.contents_are (subst (λ l. IsLog l t.f.contents t.log) t.limits_are is_log_so)
+    is_log_now : IsLog limits setting t.log
+    is_log_now = subst (λ (d : Setting). IsLog limits d t.log) t.contents_are (subst (λ l. IsLog l t.f.setting t.log) t.limits_are is_log_so)
 
-    tables_now : t.p ≡ behind_all limits contents t.log
-    tables_now = t.of_loop.tables ∙ (ap (λ l. behind_all l t.f.contents t.log) t.limits_are ∙ ap (λ (d : Contents). behind_all limits d t.log) t.contents_are)
+    tables_now : t.p ≡ behind_all limits setting t.log
+    tables_now = t.of_loop.tables ∙ (ap (λ l. behind_all l t.f.setting t.log) t.limits_are ∙ ap (λ (d : Setting). behind_all limits d t.log) t.contents_are)
 
-    all_taken : Takes out out' (record_of (behind_all limits contents t.log))
+    all_taken : Takes out out' (record_of (behind_all limits setting t.log))
     all_taken = subst (Takes out out') (sym record_so ∙ ap record_of tables_now) t.takes
 
     -- memory was refused behind the last turn
     pub turning_wants : (turns : ℕ) (reported' : Option Log) (P : Stop → Type 0) (result : Result (Unit {0}) Stop) → IsErrAnd result P → m ≤ turns →
-        reported' ≡ reported → EndsBy limits contents turns before reported' out out' (ended_as result)
+        reported' ≡ reported → EndsBy limits setting turns before reported' out out' (ended_as result)
     turning_wants turns reported' P (Ok done) stops few same = absurd stops
     turning_wants turns reported' P (Err e) stops few same = record {
       log' = t.log;
       reported_is = subst (λ (z : Option Log). (z ≡ None) ⊎ (z ≡ Some t.log)) (sym same) t.still.follows.reported_is;
       bound = t.bound;
-      serves = by_stop turns t.log out' e is_log_now (let b = t.calls in omega arith) (whole_turns limits contents t.log out out' all_taken);
+      serves = by_stop turns t.log out' e is_log_now (let b = t.calls in omega arith) (whole_turns limits setting t.log out out' all_taken);
     }
 
 -- ALL ARE CLOSED
@@ -325,13 +325,13 @@ all_shut log p =
     ∙ ap (λ b. list_all (λ k. client_is_sent log k (p.client k)) p.accepted && b)
     (each_same (exchange_is_sent (all_closed log) p) (exchange_is_sent log p) (exchange_shut log p) (open_exchanges p.tables))
 
-module _ {B : Type 0} {g : Ghosts B} (n m : ℕ) (limits : Limits) (contents : Contents) (before : Log) (x : loop.Proxy B g) (reported : Option Log)
-    (stages : ℕ → Stage) (out out' : Option (List ℕ)) (wait : Bool) (t : IsTurning n m limits contents before x reported stages out out' wait) where
+module _ {B : Type 0} {g : Ghosts B} (n m : ℕ) (limits : Limits) (setting : Setting) (before : Log) (x : loop.Proxy B g) (reported : Option Log)
+    (stages : ℕ → Stage) (out out' : Option (List ℕ)) (wait : Bool) (t : IsTurning n m limits setting before x reported stages out out' wait) where
   -- all turns were made, and all connections are closed
-  pub turning_ends : (reported' : Option Log) → IsClosed t.log reported' → EndsBy limits contents m before reported' out out' ended.Done
+  pub turning_ends : (reported' : Option Log) → IsClosed t.log reported' → EndsBy limits setting m before reported' out out' ended.Done
   turning_ends reported' closed =
-      let now = is_log_now n m limits contents before x reported stages out out' wait t in
-      let same = tables_now n m limits contents before x reported stages out out' wait t in
+      let now = is_log_now n m limits setting before x reported stages out out' wait t in
+      let same = tables_now n m limits setting before x reported stages out out' wait t in
       record {
         log' = all_closed t.log;
         reported_is = closed;
@@ -340,7 +340,7 @@ module _ {B : Type 0} {g : Ghosts B} (n m : ℕ) (limits : Limits) (contents : C
             Serves.done
             (record {
               fit = now.fit;
-              sent = shut_sent (was_sent (dials_from contents t.log.dialled) (behind_all limits contents t.log)) (λ c. refl) t.log.takers ∙ now.sent;
+              sent = shut_sent (was_sent (dials_from setting t.log.dialled) (behind_all limits setting t.log)) (λ c. refl) t.log.takers ∙ now.sent;
               dialled = now.dialled;
             })
             t.calls
@@ -350,7 +350,7 @@ module _ {B : Type 0} {g : Ghosts B} (n m : ℕ) (limits : Limits) (contents : C
               dialled = subst (λ (r : Proxy). length (dials_in r t.log) ≡ r.tables.opened) same t.still.rests.opened;
               closed = shut_closed t.log.takers;
             })
-            (all_taken n m limits contents before x reported stages out out' wait t);
+            (all_taken n m limits setting before x reported stages out out' wait t);
       }
 
 -- BEFORE THE FIRST TURN
@@ -368,26 +368,26 @@ fresh_first : (reported : Option Log) → IfSome reported IsFresh → IsFresh (l
 fresh_first None fresh = record { calls = refl; dialled = refl; takers = refl }
 fresh_first (Some log) fresh = fresh
 
-abbrev pub frame_of : Limits → Contents → Frame
-frame_of limits contents = record { limits = limits; contents = contents; written = []; bytes = 0 }
+abbrev pub frame_of : Limits → Setting → Frame
+frame_of limits setting = record { limits = limits; setting = setting; written = []; bytes = 0 }
 
 -- a cache that is stocked with these contents is unused
-pub unused_so : {B : Type 0} {g : Ghosts B} (limits : Limits) (contents : Contents) (cache : Cache B g) (last : ℕ) → IsStocked contents cache last →
-    limits_in cache ≡ limits → steps cache + bytes_received cache ≡ 0 → last < 2 ^ 61 → IsUnused (frame_of limits contents) cache
-unused_so limits contents cache last s same none few = record {
+pub unused_so : {B : Type 0} {g : Ghosts B} (limits : Limits) (setting : Setting) (cache : Cache B g) (last : ℕ) → IsStocked setting.contents cache last →
+    limits_in cache ≡ limits → steps cache + bytes_received cache ≡ 0 → last < 2 ^ 61 → IsUnused (frame_of limits setting) cache
+unused_so limits setting cache last s same none few = record {
   stands = s.stands;
-  room = (let is : last ≡ contents.last_consumer = s.last_is in omega arith);
+  room = (let is : last ≡ setting.contents.last_consumer = s.last_is in omega arith);
   limits = same;
   received = omega arith;
   written = refl;
   bounded = omega arith;
 }
 
-module _ {B : Type 0} {g : Ghosts B} (n : ℕ) (limits : Limits) (contents : Contents) (x : loop.Proxy B g) (reported : Option Log) (stages : ℕ → Stage)
+module _ {B : Type 0} {g : Ghosts B} (n : ℕ) (limits : Limits) (setting : Setting) (x : loop.Proxy B g) (reported : Option Log) (stages : ℕ → Stage)
     (fresh : IfSome reported IsFresh) (unseen : (k : ℕ) → stages k ≡ Unseen)
-    (rests : (log : Log) → IsFresh log → Rests (frame_of limits contents) x (unused contents) log) (none : steps x.cache ≡ 0)
+    (rests : (log : Log) → IsFresh log → Rests (frame_of limits setting) x (unused setting) log) (none : steps x.cache ≡ 0)
     (written : text_of x.record ≡ []) where
-  pub loop_begins : Begins n (frame_of limits contents) x (log_of reported) reported stages
+  pub loop_begins : Begins n (frame_of limits setting) x (log_of reported) reported stages
   loop_begins =
       let is = fresh_first reported fresh in
       record {
@@ -406,12 +406,12 @@ module _ {B : Type 0} {g : Ghosts B} (n : ℕ) (limits : Limits) (contents : Con
       }
 
 -- what the wire tells
-pub reported_ends : (limits : Limits) (contents : Contents) → may_begin limits contents ≡ true →
+pub reported_ends : (limits : Limits) (setting : Setting) → may_begin limits setting.contents ≡ true →
     (turns : ℕ) (log : Log) (reported reported' : Option Log) (out out' : Option (List ℕ)) (end : Ended) →
-    (reported ≡ None) ⊎ (reported ≡ Some log) → EndsBy limits contents turns log reported' out out' end →
-    ServesWith limits contents turns reported reported' out out' end
-reported_ends limits contents may turns log reported None out out' end is e = tt
-reported_ends limits contents may turns log reported (Some l) out out' end is e = by_reported e.reported_is
+    (reported ≡ None) ⊎ (reported ≡ Some log) → EndsBy limits setting turns log reported' out out' end →
+    ServesWith limits setting turns reported reported' out out' end
+reported_ends limits setting may turns log reported None out out' end is e = tt
+reported_ends limits setting may turns log reported (Some l) out out' end is e = by_reported e.reported_is
   where
     some_is : (a b : Log) → Some a ≡ Some b → a ≡ b
     some_is a b h = cc
@@ -421,9 +421,9 @@ reported_ends limits contents may turns log reported (Some l) out out' end is e 
     by_old (Some old) (inl none) l' same = absurd (let never : Some old ≡ None = none in cc)
     by_old (Some old) (inr it) l' same = same ∙ ap (λ (z : Log). z.bound) (sym (some_is old log it))
 
-    by_reported : (Some l ≡ None) ⊎ (Some l ≡ Some e.log') → ServesWith limits contents turns reported (Some l) out out' end
+    by_reported : (Some l ≡ None) ⊎ (Some l ≡ Some e.log') → ServesWith limits setting turns reported (Some l) out out' end
     by_reported (inl none) = absurd (let never : Some l ≡ None = none in cc)
     by_reported (inr same) =
         let it : l ≡ e.log' = some_is l e.log' same in
-        subst (λ (z : Log). ServesWith limits contents turns reported (Some z) out out' end) (sym it)
-        (e.serves, loops_are_runs limits contents e.log' may, by_old reported is e.log' e.bound)
+        subst (λ (z : Log). ServesWith limits setting turns reported (Some z) out out' end) (sym it)
+        (e.serves, loops_are_runs limits setting e.log' may, by_old reported is e.log' e.bound)

@@ -5,9 +5,8 @@
 -- is what stands there. What is appended changes no place before it. One more connection stands at the next place, and
 -- nowhere before, since its number is new: so each number still names one exchange.
 use Rattle.std.{proofs.{Common.{◌≡◌, ◌⊎◌, inl, inr, ℕ, zero, suc, ◌+◌, ◌-◌, List, [], ◌∷◌, ◌++◌, length, drop, Bool, true, false, Option, Some, None, refl, ap, sym, ◌∙◌, subst, arith, append_assoc}, lemmas.{Bool.Decides.{nat_tests}, List.{map-append}}}, specs.Prelude.{nat_eq, map, replicate, if◌then◌else◌}}
-use Rattle.hc_effects.proofs.Vocabulary.{Contents}
 use Rattle.hc_text.proofs.Basics.{eq_itself as same_number, some_same}
-use Rattle.hc_proxy.specs.{Connections.{dials_from, is_dialled, place_from, exchange_of, first_of, connection_of}, Invariants.{NamesOne}}
+use Rattle.hc_proxy.specs.{Connections.{dials_from, is_dialled, place_from, exchange_of, first_of, connection_of}, Invariants.{NamesOne}, Rows.{Setting}}
 
 none_some : {A : Type 0} (k : ℕ) → None ≡ Some k → A
 none_some k h = absurd (let never : None ≡ Some k = h in cc)
@@ -103,10 +102,10 @@ connection_was dialled k x j h = by_test (nat_eq x 0) refl h
 -- THE DIALS, from some contents
 
 -- those that come stand behind those before
-pub dials_more : (c : Contents) (dialled more : List ℕ) → dials_from c (dialled ++ more) ≡ dials_from c dialled ++ map Some more
+pub dials_more : (c : Setting) (dialled more : List ℕ) → dials_from c (dialled ++ more) ≡ dials_from c dialled ++ map Some more
 dials_more c dialled more =
-    ap (λ (os : List (Option ℕ)). replicate (c.next_exchange - 1) None ++ os) (map-append Some dialled more)
-    ∙ sym (append_assoc (replicate (c.next_exchange - 1) None) (map Some dialled) (map Some more))
+    ap (λ (os : List (Option ℕ)). replicate (c.contents.next_exchange - 1) None ++ os) (map-append Some dialled more)
+    ∙ sym (append_assoc (replicate (c.contents.next_exchange - 1) None) (map Some dialled) (map Some more))
 
 length_none : (n : ℕ) (os : List (Option ℕ)) → length (replicate n None ++ os) ≡ n + length os
 length_none zero os = omega arith
@@ -117,8 +116,8 @@ length_some [] = refl
 length_some (k ∷ ks) = ap suc (length_some ks)
 
 -- one for each exchange before, and for each that was dialled
-pub dials_length : (c : Contents) (dialled : List ℕ) → length (dials_from c dialled) ≡ (c.next_exchange - 1) + length dialled
-dials_length c dialled = length_none (c.next_exchange - 1) (map Some dialled) ∙ ap (λ n. (c.next_exchange - 1) + n) (length_some dialled)
+pub dials_length : (c : Setting) (dialled : List ℕ) → length (dials_from c dialled) ≡ (c.contents.next_exchange - 1) + length dialled
+dials_length c dialled = length_none (c.contents.next_exchange - 1) (map Some dialled) ∙ ap (λ n. (c.contents.next_exchange - 1) + n) (length_some dialled)
 
 -- before the first dial no connection is anybody's
 
@@ -126,8 +125,8 @@ none_placed : (i k n : ℕ) → place_from i k (replicate n None ++ []) ≡ None
 none_placed i k zero = refl
 none_placed i k (suc n) = none_placed (i + 1) k n
 
-pub nobodys_first : (c : Contents) (k : ℕ) → exchange_of (dials_from c []) k ≡ None
-nobodys_first c k = none_placed 1 k (c.next_exchange - 1)
+pub nobodys_first : (c : Setting) (k : ℕ) → exchange_of (dials_from c []) k ≡ None
+nobodys_first c k = none_placed 1 k (c.contents.next_exchange - 1)
 
 none_first : (m n : ℕ) → first_of (drop m (replicate n None ++ [])) ≡ None
 none_first zero zero = refl
@@ -135,12 +134,12 @@ none_first (suc m) zero = refl
 none_first zero (suc n) = refl
 none_first (suc m) (suc n) = none_first m n
 
-pub none_dialled : (c : Contents) (y k : ℕ) → connection_of (dials_from c []) y ≡ Some k → ⊥
+pub none_dialled : (c : Setting) (y k : ℕ) → connection_of (dials_from c []) y ≡ Some k → ⊥
 none_dialled c y k is = by_test (nat_eq y 0) is
   where
     by_test : (b : Bool) → (if b then None else first_of (drop (y - 1) (dials_from c []))) ≡ Some k → ⊥
     by_test true at = none_some k at
-    by_test false at = none_some k (sym (none_first (y - 1) (c.next_exchange - 1)) ∙ at)
+    by_test false at = none_some k (sym (none_first (y - 1) (c.contents.next_exchange - 1)) ∙ at)
 
 -- NO NUMBER TWICE
 

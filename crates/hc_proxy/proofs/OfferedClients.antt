@@ -221,14 +221,14 @@ module _ (p : Proxy) (cl : Clients) (up : Upstreams) (log : Log) (h : HasConnect
           clients = λ j. clients_by j (nat_eq j k) refl;
           rows = λ y live le. upstream_same (taken_in log) (taken_in log') (upstream_of up y) (p.upstream y)
               (λ u its. taken_off p k _ _ stage' log log' m u.k (apart y u its))
-              (h.rows y live (subst (λ (ks : List ℕ). y ≤ length (dials_from p.contents ks)) m.sends.dialled le));
-          numbers = λ y u its. ap (λ (ks : List ℕ). connection_of (dials_from p.contents ks) y) m.sends.dialled ∙ h.numbers y u its;
+              (h.rows y live (subst (λ (ks : List ℕ). y ≤ length (dials_from p.setting ks)) m.sends.dialled le));
+          numbers = λ y u its. ap (λ (ks : List ℕ). connection_of (dials_from p.setting ks) y) m.sends.dialled ∙ h.numbers y u its;
           over = h.over;
-          within = λ y some. subst (λ (ks : List ℕ). y ≤ length (dials_from p.contents ks)) (sym m.sends.dialled) (h.within y some);
+          within = λ y some. subst (λ (ks : List ℕ). y ≤ length (dials_from p.setting ks)) (sym m.sends.dialled) (h.within y some);
           news = h.news;
           touched = h.touched;
-          names = subst (λ (ks : List ℕ). NamesOne (dials_from p.contents ks)) (sym m.sends.dialled) h.names;
-          strangers = λ j some. ap (λ (ks : List ℕ). exchange_of (dials_from p.contents ks) j) m.sends.dialled ∙ h.strangers j some;
+          names = subst (λ (ks : List ℕ). NamesOne (dials_from p.setting ks)) (sym m.sends.dialled) h.names;
+          strangers = λ j some. ap (λ (ks : List ℕ). exchange_of (dials_from p.setting ks) j) m.sends.dialled ∙ h.strangers j some;
           read_clients = λ j u its. read_by j u its (nat_eq j k) refl;
           read_upstreams = λ y u its. let was = h.read_upstreams y u its in (was.0, stage_off p k _ _ stage' log log' m u.k (apart y u its) ∙ was.1);
           all = λ j live. all_by j live (nat_eq j k) refl;

@@ -85,7 +85,8 @@ module _ (p : Proxy) (cl : Clients) (up : Upstreams) (log : Log) (h : HasConnect
     module _ (becomes : Becomes y (Some u') up up') (news : (z : ℕ) → is_news up' z ≡ is_news up z)
         (touches : Marks (is_touched up) (is_touched up') y (is_touched up y && lacks_at (upstream_of up' y))) where
       taken_now : taken_in log' u.k ≡ taken_in log u.k + n
-      taken_now = ap length m.sent ∙ (length-append (sent_in log.takers u.k) (take n u.unsent) ∙ ap (λ i. taken_in log u.k + i) (length-take-le n u.unsent within))
+      taken_now = ap length m.sent
+          ∙ (length-append (sent_in log.takers u.k) (take n u.unsent) ∙ ap (λ i. taken_in log u.k + i) (length-take-le n u.unsent within))
 
       is_upstream_now : IsUpstream (taken_in log' u.k) u' v
       is_upstream_now = record {
@@ -203,14 +204,14 @@ module _ (p : Proxy) (cl : Clients) (up : Upstreams) (log : Log) (h : HasConnect
       pub origin_has : HasConnections p cl up' log'
       origin_has = record {
         clients = λ j. clients_by j (p.client j) refl (h.clients j);
-        rows = λ z live le. rows_by z live (subst (λ (ks : List ℕ). z ≤ length (dials_from p.contents ks)) m.sends.dialled le) (nat_eq z y) refl;
-        numbers = λ z w is. ap (λ (ks : List ℕ). connection_of (dials_from p.contents ks) z) m.sends.dialled ∙ numbers_by z w is (nat_eq z y) refl;
+        rows = λ z live le. rows_by z live (subst (λ (ks : List ℕ). z ≤ length (dials_from p.setting ks)) m.sends.dialled le) (nat_eq z y) refl;
+        numbers = λ z w is. ap (λ (ks : List ℕ). connection_of (dials_from p.setting ks) z) m.sends.dialled ∙ numbers_by z w is (nat_eq z y) refl;
         over = λ z is. h.over z (there_by z is (nat_eq z y) refl);
-        within = λ z is. subst (λ (ks : List ℕ). z ≤ length (dials_from p.contents ks)) (sym m.sends.dialled) (h.within z (there_by z is (nat_eq z y) refl));
+        within = λ z is. subst (λ (ks : List ℕ). z ≤ length (dials_from p.setting ks)) (sym m.sends.dialled) (h.within z (there_by z is (nat_eq z y) refl));
         news = λ z live unheard. h.news z live (sym (news z) ∙ unheard);
         touched = λ z w is untouched. touched_by z w is untouched (nat_eq z y) refl;
-        names = subst (λ (ks : List ℕ). NamesOne (dials_from p.contents ks)) (sym m.sends.dialled) h.names;
-        strangers = λ j is. ap (λ (ks : List ℕ). exchange_of (dials_from p.contents ks) j) m.sends.dialled ∙ h.strangers j is;
+        names = subst (λ (ks : List ℕ). NamesOne (dials_from p.setting ks)) (sym m.sends.dialled) h.names;
+        strangers = λ j is. ap (λ (ks : List ℕ). exchange_of (dials_from p.setting ks) j) m.sends.dialled ∙ h.strangers j is;
         read_clients = λ j c is. let was = h.read_clients j c is in (was.0, stage_other j (client_there j c is) ∙ was.1);
         read_upstreams = λ z w is. read_by z w is (nat_eq z y) refl;
         all = λ j live. all_by j live (nat_eq j u.k) refl;

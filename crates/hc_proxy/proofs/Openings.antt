@@ -4,12 +4,12 @@
 -- opens one that is new in this turn, and counted behind it. A row of a connection to the origin is one of an
 -- exchange that was opened. So no such row is replaced, and what it is owed stays as it was.
 use Rattle.std.{proofs.{Common.{◌≡◌, ◌≤◌, ◌<◌, ℕ, ◌+◌, Bool, true, false, List, [], ◌∷◌, ◌++◌, Option, Some, None, refl, ap, sym, ◌∙◌, subst, arith}, lemmas.Bool.Decides.{nat_tests}}, specs.Prelude.{nat_eq, if◌then◌else◌, map, option_map}}
-use Rattle.hc_effects.proofs.Vocabulary.{Opening, opening_in, is_denied, Act, Need, Event, Request, Limits, accepted_acts, answer_acts, poll_acts, loss_acts, close_acts, closing, Entry, Flaw, NoFlaw, Loses, Misreads, flaw_in, Move, Nothing, Asks, Opens, Shows, Gives, Ends, Fails, acts_of, poll_move, Tables, IsOwed, owed, Sound, after, opened_after, evicted, act, Contents, may_begin}
+use Rattle.hc_effects.proofs.Vocabulary.{Opening, opening_in, is_denied, Act, Need, Event, Request, Limits, accepted_acts, answer_acts, poll_acts, loss_acts, close_acts, closing, Entry, Flaw, NoFlaw, Loses, Misreads, flaw_in, Move, Nothing, Asks, Opens, Shows, Gives, Ends, Fails, acts_of, poll_move, Tables, IsOwed, owed, Sound, after, opened_after, evicted, act, may_begin}
 use Rattle.hc_event.specs.declared.event.Event.TheVariants as event
 use Rattle.hc_model.specs.Moves as moves
 use Rattle.hc_effects.proofs.{NumbersKeep.{opens_next}, Owed.{goes, acts_are, is_denial, IsDenied, denied}}
 use Rattle.hc_wire.specs.Logs.{Called}
-use Rattle.hc_proxy.specs.{Carrying.{acts_in, carried}, Handling.{begun}, Rows.{Upstream, Proxy, unused}, Steps.{with_entry, stepped}, Turns.{so_far, happened, turned, turned_by}}
+use Rattle.hc_proxy.specs.{Carrying.{acts_in, carried}, Handling.{begun}, Rows.{Upstream, Proxy, unused, Setting}, Steps.{with_entry, stepped}, Turns.{so_far, happened, turned, turned_by}}
 use Rattle.hc_proxy.proofs.{Later.{OriginStays, carried_is_same, both_origins, origin_stays}, Stands.{Stands, stands_on, begins_turn, is_sound, owed_here, goes_on, turn_goes, unused_stands}, Turning.{IsKept, IsCarried, OpenOnly, happened_keeps, carried_keeps}}
 
 -- LISTS OF ACTS
@@ -276,7 +276,7 @@ module _ (limits : Limits) (dialled : List (Option ℕ)) (call : Called) (p : Pr
       (open_more _ _ (λ y f same. let high : p.tables.opened < y = f.0 in absurd (omega arith)) (acts_in h.part) opens_new.1)
       old row
 
-pub unused_known : (limits : Limits) (c : Contents) → may_begin limits c ≡ true → StandsKnown limits (unused c)
+pub unused_known : (limits : Limits) (c : Setting) → may_begin limits c.contents ≡ true → StandsKnown limits (unused c)
 unused_known limits c begins = record { stands = unused_stands limits c begins; known = λ x u row. absurd (let never : None ≡ Some u = row in cc) }
 
 -- Behind all turns.

@@ -66,7 +66,7 @@ module _ {B : Type 0} {g : Ghosts B} (z : ℕ) (t : Turn) (x : loop.Proxy B g) (
 
     cache : HasCache t.frame (record x { upstreams = s }) q
     cache = cache_rows t.frame (record x { upstreams = s }) p q.upstream unopened headed room
-        (cache_moves t.frame x (record x { upstreams = s }) p refl refl refl refl h.cache)
+        (cache_moves t.frame x (record x { upstreams = s }) p refl refl refl refl refl h.cache)
       where
         unopened : (y : ℕ) → p.tables.opened < y → q.upstream y ≡ None
         unopened y lt = elim (eq_cases y z) as (λ _. q.upstream y ≡ None) [

@@ -7,8 +7,7 @@
 -- them is still waited for.
 use Rattle.std.{proofs.{Common.{◌≡◌, ◌⊎◌, inl, inr, ℕ, List, [], ◌∷◌, ◌++◌, Bool, true, false, Option, Some, None, refl, ap, sym, ◌∙◌, subst, arith, length, append_assoc, append-nil}, lemmas.Bool.Decides.{nat_tests}}, specs.Prelude.{◌||◌, nat_eq, option_map, if◌then◌else◌}}
 use Rattle.hc_effects.proofs.Vocabulary.{leaves_in, Act, History, act}
-use Rattle.hc_head.specs.declared.message.WireRequest.{WireRequest}
-use Rattle.hc_peers.specs.{declared.reply.Reply.{Reply}, Renderings.{rendering, form_behind, is_last, closes, reply_to}}
+use Rattle.hc_peers.specs.{declared.reply.{Asking.{Asking}, Reply.{Reply}}, Renderings.{rendering, form_behind, is_last, closes}}
 use Rattle.hc_proxy.specs.{Asked.{is_at}, Carrying.{answered, carried_out, all_carried_out}, Invariants.{addressee}, Rendered.{is_answer_to, answer_to, rendered, answers_to, error_answer}, Rows.{Client, Proxy}}
 use Rattle.hc_proxy.proofs.{CarriedOut.{sent_to, last_leaves, later_leaves}, FoundClients.{answered_clients, sent_clients, clients_are, holders_stay}, Owings.{reply_behind, AreSame, AreBelow, is_number, answers_whom, alone, all_alone, to_other, to_it, below_same, rendered_both, behind_both, answers_more, answers_same, Owes, owes_by}}
 
@@ -133,7 +132,7 @@ module _ (holder : ℕ → Option ℕ) (k : ℕ) where
 
   -- WHERE NONE IS SENT TO IT
 
-  module _ (cs : List ℕ) (asked : List WireRequest) (its : AreIts cs) where
+  module _ (cs : List ℕ) (asked : List Asking) (its : AreIts cs) where
     pub owes_past : (acts : List Act) (h : History) (client : Client) → AreFor (λ d. ⊥) acts → Owes h cs asked client →
         Owes (all_alone acts h) cs asked (reported_all acts client)
     owes_past [] h client none o = o
@@ -146,10 +145,10 @@ module _ (holder : ℕ → Option ℕ) (k : ℕ) where
 
   -- WHERE ALL ARE SENT TO ITS LAST CONSUMER
 
-  module _ (ds : List ℕ) (c : ℕ) (qs : List WireRequest) (r : WireRequest) (sizes : length qs ≡ length ds) (below : AreBelow c ds)
+  module _ (ds : List ℕ) (c : ℕ) (qs : List Asking) (r : Asking) (sizes : length qs ≡ length ds) (below : AreBelow c ds)
       (its : AreIts (ds ++ c ∷ [])) where
     abbrev whole : Reply
-    whole = reply_to r
+    whole = r.reply
 
     record OwesLast (h : History) (client : Client) : Type 0 where
       here : client.gone ≡ false

@@ -9,9 +9,9 @@ use Rattle.std.{proofs.{Common.{◌≡◌, ◌⊎◌, inl, inr, ◌<◌, ℕ, su
 use Rattle.hc_text.proofs.Basics.{eq_itself as itself}
 use Rattle.hc_effects.proofs.Vocabulary.{Act, Entry, History, act}
 use Rattle.hc_event.specs.declared.event.Event.TheVariants as event
-use Rattle.hc_head.specs.declared.message.{MsgError.{MsgError}, WireRequest.{WireRequest}}
+use Rattle.hc_head.specs.declared.message.MsgError.{MsgError}
 use Rattle.hc_msg.specs.Reading.{Reading, Failed}
-use Rattle.hc_peers.specs.{declared.reply.Reply.{Reply}, Renderings.{rendering, form_behind, reply_to, empty_answer, error_status}}
+use Rattle.hc_peers.specs.{declared.reply.{Asking.{Asking}, Reply.{Reply}}, Renderings.{rendering, form_behind, empty_answer, error_status}}
 use Rattle.hc_proxy.specs.{Invariants.{addressee}, Rendered.{is_answer_to, answer_to, rendered, answers_to, error_answer}, Rows.{Client, new_client}, Starts.{read_to, asks, refused}}
 
 -- ONE ANSWER
@@ -37,21 +37,21 @@ behind_both reply (a ∷ xs) ys = behind_both (record reply { form = form_behind
 size_never : {X : Type 0} (n : ℕ) → 0 ≡ suc n → X
 size_never n is = absurd (omega arith)
 
-pub answers_more : (qs : List WireRequest) (ds : List ℕ) (r : WireRequest) (c : ℕ) (h : History) → length qs ≡ length ds →
-    answers_to (qs ++ r ∷ []) (ds ++ c ∷ []) h ≡ answers_to qs ds h ++ rendered (reply_to r) (answer_to c h)
-answers_more [] [] r c h same = append-nil (rendered (reply_to r) (answer_to c h))
+pub answers_more : (qs : List Asking) (ds : List ℕ) (r : Asking) (c : ℕ) (h : History) → length qs ≡ length ds →
+    answers_to (qs ++ r ∷ []) (ds ++ c ∷ []) h ≡ answers_to qs ds h ++ rendered r.reply (answer_to c h)
+answers_more [] [] r c h same = append-nil (rendered r.reply (answer_to c h))
 answers_more [] (d ∷ ds) r c h same = size_never (length ds) same
 answers_more (q ∷ qs) [] r c h same = size_never (length qs) (sym same)
 answers_more (q ∷ qs) (d ∷ ds) r c h same =
-    ap (λ (t : List ℕ). rendered (reply_to q) (answer_to d h) ++ t) (answers_more qs ds r c h (omega arith))
-    ∙ sym (append_assoc (rendered (reply_to q) (answer_to d h)) (answers_to qs ds h) (rendered (reply_to r) (answer_to c h)))
+    ap (λ (t : List ℕ). rendered q.reply (answer_to d h) ++ t) (answers_more qs ds r c h (omega arith))
+    ∙ sym (append_assoc (rendered q.reply (answer_to d h)) (answers_to qs ds h) (rendered r.reply (answer_to c h)))
 
 -- each of these consumers is answered by both histories alike
 abbrev pub AreSame : History → History → List ℕ → Type 0
 AreSame g h [] = Unit {0}
 AreSame g h (c ∷ cs) = (answer_to c g ≡ answer_to c h) × AreSame g h cs
 
-pub answers_same : (g h : History) (qs : List WireRequest) (cs : List ℕ) → AreSame g h cs → answers_to qs cs g ≡ answers_to qs cs h
+pub answers_same : (g h : History) (qs : List Asking) (cs : List ℕ) → AreSame g h cs → answers_to qs cs g ≡ answers_to qs cs h
 answers_same g h [] cs same = refl
 answers_same g h (q ∷ qs) [] same = refl
 answers_same g h (q ∷ qs) (c ∷ cs) same =
@@ -130,25 +130,25 @@ abbrev pub HasError : Client → Type 0
 HasError client = (error_answer client.reading ≡ []) ⊎ IsRefused client
 
 -- its last request, and the consumer of that
-pub record HasLast (h : History) (cs : List ℕ) (asked : List WireRequest) (client : Client) : Type 0 where
+pub record HasLast (h : History) (cs : List ℕ) (asked : List Asking) (client : Client) : Type 0 where
   pub ds : List ℕ
   pub c : ℕ
-  pub qs : List WireRequest
-  pub r : WireRequest
+  pub qs : List Asking
+  pub r : Asking
   pub cs_are : cs ≡ ds ++ c ∷ []
   pub asked_are : asked ≡ qs ++ r ∷ []
   pub sizes : length qs ≡ length ds
   pub below : AreBelow c ds
-  pub reply : client.reply ≡ reply_behind (reply_to r) (answer_to c h)
+  pub reply : client.reply ≡ reply_behind r.reply (answer_to c h)
   pub waits : (client.consumer ≡ None) ⊎ (client.consumer ≡ Some c)
 
 -- it asked for nothing yet
-pub record IsNew (cs : List ℕ) (asked : List WireRequest) (client : Client) : Type 0 where
+pub record IsNew (cs : List ℕ) (asked : List Asking) (client : Client) : Type 0 where
   pub none : cs ≡ []
   pub nothing : asked ≡ []
   pub waits : client.consumer ≡ None
 
-pub record Owes (h : History) (cs : List ℕ) (asked : List WireRequest) (client : Client) : Type 0 where
+pub record Owes (h : History) (cs : List ℕ) (asked : List Asking) (client : Client) : Type 0 where
   pub owed_is : client.owed ≡ answers_to asked cs h ++ error_answer client.reading
   pub error : HasError client
   pub last : IsNew cs asked client ⊎ HasLast h cs asked client
@@ -156,7 +156,7 @@ pub record Owes (h : History) (cs : List ℕ) (asked : List WireRequest) (client
 pub new_owes : (h : History) → Owes h [] [] new_client
 new_owes h = record { owed_is = refl; error = inl refl; last = inl (record { none = refl; nothing = refl; waits = refl }) }
 
-module _ (h : History) (cs : List ℕ) (asked : List WireRequest) where
+module _ (h : History) (cs : List ℕ) (asked : List Asking) where
   -- a change that leaves these alone
   module _ (new old : Client) (owed : new.owed ≡ old.owed) (reply : new.reply ≡ old.reply) (consumer : new.consumer ≡ old.consumer)
       (closing : new.closing ≡ old.closing) where
@@ -232,20 +232,20 @@ module _ (h : History) (cs : List ℕ) (asked : List WireRequest) where
 
   -- as many requests as consumers
   sizes_are : (client : Client) → IsNew cs asked client ⊎ HasLast h cs asked client → length asked ≡ length cs
-  sizes_are client (inl n) = ap (λ (xs : List WireRequest). length xs) n.nothing ∙ sym (ap (λ (xs : List ℕ). length xs) n.none)
+  sizes_are client (inl n) = ap (λ (xs : List Asking). length xs) n.nothing ∙ sym (ap (λ (xs : List ℕ). length xs) n.none)
   sizes_are client (inr l) =
-      ap (λ (xs : List WireRequest). length xs) l.asked_are
+      ap (λ (xs : List Asking). length xs) l.asked_are
       ∙ (one_more l.qs l.ds l.sizes ∙ sym (ap (λ (xs : List ℕ). length xs) l.cs_are))
     where
-      one_more : (qs : List WireRequest) (ds : List ℕ) → length qs ≡ length ds → length (qs ++ l.r ∷ []) ≡ length (ds ++ l.c ∷ [])
+      one_more : (qs : List Asking) (ds : List ℕ) → length qs ≡ length ds → length (qs ++ l.r ∷ []) ≡ length (ds ++ l.c ∷ [])
       one_more [] [] same = refl
       one_more [] (d ∷ ds) same = size_never (length ds) same
       one_more (q ∷ qs) [] same = size_never (length qs) (sym same)
       one_more (q ∷ qs) (d ∷ ds) same = ap suc (one_more qs ds (omega arith))
 
   -- it asks for more, by a consumer that nothing was told to
-  pub owes_asks : (client : Client) (c : ℕ) (r : WireRequest) → client.closing ≡ false → answer_to c h ≡ [] → AreBelow c cs → Owes h cs asked client →
-      Owes h (cs ++ c ∷ []) (asked ++ r ∷ []) (asks c r client)
+  pub owes_asks : (client : Client) (c : ℕ) (r : Asking) → client.closing ≡ false → answer_to c h ≡ [] → AreBelow c cs → Owes h cs asked client →
+      Owes h (cs ++ c ∷ []) (asked ++ r ∷ []) (asks c r.reply client)
   owes_asks client c r off unreported below o =
       let same : length asked ≡ length cs = sizes_are client o.last in
       record {
@@ -253,7 +253,7 @@ module _ (h : History) (cs : List ℕ) (asked : List WireRequest) where
             o.owed_is
             ∙ ap (λ (t : List ℕ). t ++ error_answer client.reading)
             (sym (append-nil (answers_to asked cs h))
-            ∙ (ap (λ (acts : List Act). answers_to asked cs h ++ rendered (reply_to r) acts) (sym unreported) ∙ sym (answers_more asked cs r c h same)));
+            ∙ (ap (λ (acts : List Act). answers_to asked cs h ++ rendered r.reply acts) (sym unreported) ∙ sym (answers_more asked cs r c h same)));
         error = inl (none_behind client off o.error);
         last = inr (record {
           ds = cs;
@@ -264,7 +264,7 @@ module _ (h : History) (cs : List ℕ) (asked : List WireRequest) where
           asked_are = refl;
           sizes = same;
           below = below;
-          reply = ap (reply_behind (reply_to r)) (sym unreported);
+          reply = ap (reply_behind r.reply) (sym unreported);
           waits = inr refl;
         });
       }
@@ -274,7 +274,7 @@ same_last : (g h : History) (ds : List ℕ) (c : ℕ) → AreSame g h (ds ++ c �
 same_last g h [] c same = same.0
 same_last g h (d ∷ ds) c same = same_last g h ds c same.1
 
-pub owes_by : (g h : History) (cs : List ℕ) (asked : List WireRequest) (client : Client) → AreSame g h cs → Owes h cs asked client → Owes g cs asked client
+pub owes_by : (g h : History) (cs : List ℕ) (asked : List Asking) (client : Client) → AreSame g h cs → Owes h cs asked client → Owes g cs asked client
 owes_by g h cs asked client same o = record {
   owed_is = o.owed_is ∙ ap (λ (t : List ℕ). t ++ error_answer client.reading) (sym (answers_same g h asked cs same));
   error = o.error;
@@ -292,6 +292,6 @@ owes_by g h cs asked client same o = record {
       asked_are = l.asked_are;
       sizes = l.sizes;
       below = l.below;
-      reply = l.reply ∙ ap (reply_behind (reply_to l.r)) (sym (same_last g h l.ds l.c (subst (AreSame g h) l.cs_are same)));
+      reply = l.reply ∙ ap (reply_behind l.r.reply) (sym (same_last g h l.ds l.c (subst (AreSame g h) l.cs_are same)));
       waits = l.waits;
     })

@@ -36,7 +36,7 @@ module _ {B : Type 0} {g : Ghosts B} (f : Frame) (x x' : loop.Proxy B g) (c : â„
       is_owed = s.is_owed;
       acts = s.acts;
       cache = record {
-        contents = s.cache.contents;
+        setting = s.cache.setting;
         stands = s.cache.stands;
         same = s.cache.same;
         limits = s.cache.limits;
@@ -44,6 +44,7 @@ module _ {B : Type 0} {g : Ghosts B} (f : Frame) (x x' : loop.Proxy B g) (c : â„
         early = s.cache.early;
         last = s.cache.last;
         starts = s.cache.starts;
+        front = s.cache.front;
         last_start = s.cache.last_start;
         text = s.cache.text;
         recorded = s.cache.recorded;

@@ -159,8 +159,8 @@ module _ (limits : Limits) (call : Called) where
 
   reports_one : (p : Proxy) (e : Entry) (c : ℕ) → Stands limits p → IsPollOf limits p e c → IsOneTo c (consumer_acts e.acts)
   reports_one p e c s is =
-      let run : IsRun limits p.contents (e ∷ p.history) = (s.run, subst (λ t. IsOwed limits t e) s.same is.is_owed) in
-      let law : AnswersBy e.event e.acts = reported_in_runs limits p.contents (e ∷ p.history) s.begins run in
+      let run : IsRun limits p.setting.contents (e ∷ p.history) = (s.run, subst (λ t. IsOwed limits t e) s.same is.is_owed) in
+      let law : AnswersBy e.event e.acts = reported_in_runs limits p.setting.contents (e ∷ p.history) s.begins run in
       (subst (λ ev. AnswersBy ev e.acts) is.event_is law).one
 
   -- what polls add to the acts of the turn

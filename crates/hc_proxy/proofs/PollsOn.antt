@@ -59,7 +59,7 @@ no_cancel c d ev is at = let never : true ≡ false = ap is_poll (sym is ∙ at)
 module _ {B : Type 0} {g : Ghosts B} where
   -- each consumer asks for a target
   asked_of : (f : Frame) (x : loop.Proxy B g) (p : Proxy) → HasCache f x p → RequestsAreForTargets p.tables
-  asked_of f x p h = subst RequestsAreForTargets (sym h.same) (requests_are_for_targets p.contents p.history h.targets)
+  asked_of f x p h = subst RequestsAreForTargets (sym h.same) (requests_are_for_targets p.setting.contents p.history h.targets)
 
   -- THE LOOP
 
@@ -86,7 +86,7 @@ module _ {B : Type 0} {g : Ghosts B} where
         quiet = record {
           keeps = record {
             cache = record {
-              contents = h.cache.contents;
+              setting = h.cache.setting;
               stands = h.cache.stands;
               same = h.cache.same;
               limits = h.cache.limits;
@@ -94,6 +94,7 @@ module _ {B : Type 0} {g : Ghosts B} where
               early = h.cache.early;
               last = h.cache.last;
               starts = h.cache.starts;
+              front = h.cache.front;
               last_start = h.cache.last_start;
               text = h.cache.text;
               recorded = h.cache.recorded;
@@ -167,7 +168,7 @@ module _ {B : Type 0} {g : Ghosts B} where
       entry_keeps t.frame.limits q s.e law s.is_owed to.keeps.consumers (λ d at. no_cancel c d s.e.event s.event_is at)
       (λ d at. no_start c d s.e.event s.event_is at) in
       let waits : is_poll s.e.event ≡ true = ap is_poll s.event_is in
-      let number : q.starts ≤ q.contents.last_consumer + steps x.cache = to.keeps.numbers in
+      let number : q.starts ≤ q.setting.contents.last_consumer + steps x.cache = to.keeps.numbers in
       let counted : steps x'.cache ≡ steps x.cache + 1 = count in
       let before : faults_in old.cache ≤ faults_in x.cache = to.later in
       let behind : faults_in x.cache ≤ faults_in x'.cache = s.later in
@@ -175,7 +176,7 @@ module _ {B : Type 0} {g : Ghosts B} where
         q = with_entry s.e q;
         keeps = keeps_on t x x' (event.Poll c 16384) q (stands_of t.frame x q h) h.unopened to.keeps.acts to.keeps.clients to.keeps.upstreams
             to.keeps.wire to.keeps.seen to.keeps.shut to.keeps.known s rest (λ y at. no_stop c y s.e.event s.event_is at) consumers (omega arith)
-            (let le : q.tables.opened ≤ q.contents.next_exchange + steps x.cache = to.keeps.opened in omega arith);
+            (let le : q.tables.opened ≤ q.setting.contents.next_exchange + steps x.cache = to.keeps.opened in omega arith);
         moved =
             made.moved ∙ (ap (λ (b : Bool). b || not (pends s.e.acts)) to.moved
             ∙ (moved_more (list_all is_waiting q.part) (pends s.e.acts)
@@ -313,6 +314,6 @@ module _ {B : Type 0} {g : Ghosts B} where
       among c (filter (peers.takes_more x.clients) (consumers_of x.clients)) ≡ true → c < 2 ^ 61 + steps x.cache
   small_of x some order c there = ∥∥₁_elim some le_prop (λ s.
       let a : c ≤ s.1.starts = round_started s.0 x s.1 s.2 order c there in
-      let b : s.1.starts ≤ s.1.contents.last_consumer + steps x.cache = s.2.quiet.keeps.numbers in
-      let room : s.1.contents.last_consumer < 2 ^ 61 = s.2.quiet.keeps.cache.room in
+      let b : s.1.starts ≤ s.1.setting.contents.last_consumer + steps x.cache = s.2.quiet.keeps.numbers in
+      let room : s.1.setting.contents.last_consumer < 2 ^ 61 = s.2.quiet.keeps.cache.room in
       omega arith)

@@ -2,13 +2,13 @@
 -- whole answer.
 use Rattle.std.{proofs.{Common.{◌≡◌, ◌⊎◌, inl, inr, ℕ, List, [], ◌∷◌, ◌++◌, Bool, true, Option, Some, None, refl, ap, sym, ◌∙◌, subst, arith}, lemmas.Bool.Decides.{nat_tests}}, specs.Prelude.{nat_eq}}
 use Rattle.hc_text.proofs.Basics.{nothing_first as front_nil, false_true as never_true}
-use Rattle.hc_effects.proofs.Vocabulary.{Contents, Entry, History, Limits}
+use Rattle.hc_effects.proofs.Vocabulary.{Entry, History, Limits}
 use Rattle.hc_msg.specs.Reading.{Reading, Responses, Whole, Token, Leads, heading}
 use Rattle.hc_wire.specs.Logs.{Log}
-use Rattle.hc_proxy.specs.{Asked.{got_from}, Connections.{dials_from, connection_of}, Rows.{Upstream, Proxy, unused}, Received.{received_of, HasSent, IsReceived, nothing, since, EventsAreReceived}, Ended.{IsClosed, IsWhole, EndsAreReceived}, Turns.{so_far, turned_by, behind_all}}
+use Rattle.hc_proxy.specs.{Asked.{got_from}, Connections.{dials_from, connection_of}, Rows.{Upstream, Proxy, unused, Setting}, Received.{received_of, HasSent, IsReceived, nothing, since, EventsAreReceived}, Ended.{IsClosed, IsWhole, EndsAreReceived}, Turns.{so_far, turned_by, behind_all}}
 use Rattle.hc_proxy.proofs.{DialsHeard.{came_by, is_end, IsCutBy}, HeardRows.{IsHeard, IsEnd, HasEnds, HasHeard}, HeardTurns.{turns_on}}
 
-module _ (limits : Limits) (c : Contents) (log : Log) (x : ℕ) where
+module _ (limits : Limits) (c : Setting) (log : Log) (x : ℕ) where
   abbrev dials : List (Option ℕ)
   dials = dials_from c log.dialled
 

@@ -5,14 +5,14 @@
 -- sent since then. Offers change the tables of connections and the log alone. Of an open connection the log and its
 -- standings say the same.
 use Rattle.std.{proofs.{Common.{◌≡◌, ◌⊎◌, inl, inr, ℕ, zero, suc, ◌-◌, ◌≤◌, ◌<◌, List, [], ◌∷◌, Bool, true, false, Option, Some, None, refl, ap, sym, ◌∙◌, subst, arith, length, drop, eqb}, lemmas.Bool.{cases_Bool}}, specs.Prelude.{nat_eq, map, filter, find, IsSome, Contains, if◌then◌else◌}}
-use Rattle.hc_effects.proofs.Vocabulary.{is_open, is_wanted, Contents}
+use Rattle.hc_effects.proofs.Vocabulary.{is_open, is_wanted}
 use Rattle.hc_store.specs.declared.backend.Backend.{Ghosts}
 use Rattle.hc_wire.specs.{Events.{Stage, Unseen, Open, Closed, IsOpen}, Logs.{Log, Taker, Called, stage_in, sent_in, standing_of, is_taking}}
 use Rattle.hc_peers.specs.{Clients.{client_of}, Upstreams.{upstream_of}}
 use Rattle.hc_peers.specs.declared.client.Client as peer
 use Rattle.hc_peers.specs.declared.upstream.Upstream as origin
 use Rattle.hc_proxy.specs.declared.proxy.Proxy as loop
-use Rattle.hc_proxy.specs.{Connections.{dials_from, dials_in, exchange_of, connection_of, first_of, is_of, taken_by, taken_at}, Invariants.{NamesOne}, Keeping.{Frame, Turn, HasCache, HasUpstreams, IsClient, IsClientAt}, Resting.{KeepsCarried, IsRestingAt, IsRestingUpstream, resting_call, Rests}, Rows.{Client, Proxy}, TurnSteps.{SentAll}, Underway.{OnWire}, Unsent.{taken_in, IsKnownAt, HasConnections, IsSentAt, IsSentOriginAt, SendsToClients, SendsToOrigins, OthersStay}}
+use Rattle.hc_proxy.specs.{Connections.{dials_from, dials_in, exchange_of, connection_of, first_of, is_of, taken_by, taken_at}, Invariants.{NamesOne}, Keeping.{Frame, Turn, HasCache, HasUpstreams, IsClient, IsClientAt}, Resting.{KeepsCarried, IsRestingAt, IsRestingUpstream, resting_call, Rests}, Rows.{Client, Proxy, Setting}, TurnSteps.{SentAll}, Underway.{OnWire}, Unsent.{taken_in, IsKnownAt, HasConnections, IsSentAt, IsSentOriginAt, SendsToClients, SendsToOrigins, OthersStay}}
 use Rattle.hc_proxy.proofs.{Alike.{cache_moves}, OfferedAll.{sends_both}, OfferedClients.{upstream_same, none_some}}
 
 none_in : (k : ℕ) (ks : List ℕ) → ks ≡ [] → Contains ks k → ⊥
@@ -74,6 +74,7 @@ module _ {B : Type 0} {g : Ghosts B} where
     acts = b.acts ∙ a.acts;
     now = b.now ∙ a.now;
     starts = b.starts ∙ a.starts;
+    front = b.front ∙ a.front;
     moved = b.moved ∙ a.moved;
     closed = b.closed ∙ a.closed;
   }
@@ -91,18 +92,21 @@ module _ {B : Type 0} {g : Ghosts B} where
       ∙ (ap (λ n. let z : loop.Proxy B g = record y { cache = x'.cache; «record» = x'.record; acts = x'.acts; now = n } in z) (sym o.now)
       ∙ (ap (λ n. let z : loop.Proxy B g = record y { cache = x'.cache; «record» = x'.record; acts = x'.acts; now = x'.now; starts = n } in z) (sym o.starts)
       ∙ (ap (λ b. let z : loop.Proxy B g =
-      record y { cache = x'.cache; «record» = x'.record; acts = x'.acts; now = x'.now; starts = x'.starts; moved = b } in z) (sym o.moved)
+      record y { cache = x'.cache; «record» = x'.record; acts = x'.acts; now = x'.now; starts = x'.starts; front = b } in z) (sym o.front)
+      ∙ (ap (λ b. let z : loop.Proxy B g =
+      record y { cache = x'.cache; «record» = x'.record; acts = x'.acts; now = x'.now; starts = x'.starts; front = x'.front; moved = b } in z) (sym o.moved)
       ∙ ap (λ c. let z : loop.Proxy B g =
-      record y { cache = x'.cache; «record» = x'.record; acts = x'.acts; now = x'.now; starts = x'.starts; moved = x'.moved; closed = c } in z)
-      (sym o.closed))))))
+      record y { cache = x'.cache; «record» = x'.record; acts = x'.acts; now = x'.now; starts = x'.starts; front = x'.front; moved = x'.moved; closed = c }
+      in z)
+      (sym o.closed)))))))
 
   pub cache_kept : (f : Frame) (x x' : loop.Proxy B g) (p : Proxy) → OthersStay x x' → HasCache f x p → HasCache f x' p
-  cache_kept f x x' p o h = cache_moves f x x' p o.cache o.text o.now o.starts h
+  cache_kept f x x' p o h = cache_moves f x x' p o.cache o.text o.now o.starts o.front h
 
 module _ {B : Type 0} {g : Ghosts B} (t : Turn) (x : loop.Proxy B g) (p : Proxy) (log : Log) (reported : Option Log) (stages : ℕ → Stage)
     (keeps : KeepsCarried t x p) (on : OnWire t log reported stages) where
   dials_are : dials_in p log ≡ t.dialled
-  dials_are = ap (λ (c : Contents). dials_from c log.dialled) keeps.cache.contents ∙ on.dialled
+  dials_are = ap (λ (c : Setting). dials_from c log.dialled) keeps.cache.setting ∙ on.dialled
 
   stage_is : (k : ℕ) → stage_in log.takers k ≡ t.stages k
   stage_is k = sym (on.follows.stands k) ∙ on.stands k
@@ -168,7 +172,7 @@ module _ {B : Type 0} {g : Ghosts B} (t : Turn) (x : loop.Proxy B g) (p : Proxy)
     taken_resting call k reads ended opens = standing_taken (length s.log'.calls) k s.log'.takers reads ended opens
 
     dialled_is : dials_in p s.log' ≡ t.dialled
-    dialled_is = ap (dials_from p.contents) s.sends.dialled ∙ dials_are
+    dialled_is = ap (dials_from p.setting) s.sends.dialled ∙ dials_are
 
     opened_is : length (dials_in p s.log') ≡ p.tables.opened
     opened_is = ap length dialled_is ∙ keeps.upstreams.opens
@@ -195,7 +199,7 @@ module _ {B : Type 0} {g : Ghosts B} (t : Turn) (x : loop.Proxy B g) (p : Proxy)
 
     rests_here : Rests t.frame (with_tables x x') p s.log'
     rests_here = record {
-      cache = cache_moves t.frame x (with_tables x x') p refl refl refl refl keeps.cache;
+      cache = cache_moves t.frame x (with_tables x x') p refl refl refl refl refl keeps.cache;
       acts = keeps.acts;
       moved = keeps.moved;
       clients = λ k. resting_at k (client_of x'.clients k) (p.client k) (s.has.clients k) (s.clients k);

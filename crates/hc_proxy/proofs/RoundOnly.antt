@@ -12,7 +12,7 @@ use Rattle.hc_proxy.proofs.Alike.{cache_moves, upstreams_move, wire_moves}
 module _ {B : Type 0} {g : Ghosts B} (f : Frame) (x x' : loop.Proxy B g) (p : Proxy) (log : Log) where
   pub rests_round : OnlyRound x x' → Rests f x p log → Rests f x' p log
   rests_round o r = record {
-    cache = cache_moves f x x' p o.cache o.text o.now o.starts r.cache;
+    cache = cache_moves f x x' p o.cache o.text o.now o.starts o.front r.cache;
     acts = ap act_list o.acts ∙ r.acts;
     moved = o.moved ∙ r.moved;
     clients = λ k. subst (λ s. IsRestingAt log k (client_of s k) (p.client k)) (sym o.clients) (r.clients k);
@@ -28,8 +28,8 @@ module _ {B : Type 0} {g : Ghosts B} (f : Frame) (x x' : loop.Proxy B g) (p : Pr
     heard = r.heard;
     wire = wire_moves (stage_in log.takers) x x' o.clients o.upstreams o.closed r.wire;
     closed = ap (λ v. v.items) o.closed ∙ r.closed;
-    numbers = subst (λ c. p.starts ≤ p.contents.last_consumer + steps c) (sym o.cache) r.numbers;
-    opened_by = subst (λ c. p.tables.opened ≤ p.contents.next_exchange + steps c) (sym o.cache) r.opened_by;
+    numbers = subst (λ c. p.starts ≤ p.setting.contents.last_consumer + steps c) (sym o.cache) r.numbers;
+    opened_by = subst (λ c. p.tables.opened ≤ p.setting.contents.next_exchange + steps c) (sym o.cache) r.opened_by;
     seen = r.seen;
   }
 

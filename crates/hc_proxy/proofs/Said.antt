@@ -9,7 +9,7 @@ use Rattle.hc_effects.proofs.Runs.{by_entries}
 use Rattle.hc_effects.proofs.Vocabulary.{Act, Limits, Contents, may_begin, History, Tables, IsRun, tables, after, act}
 use Rattle.hc_wire.specs.{declared.connection.Standing.{Standing}, Logs.{Called, Log, Taker, is_at_end, is_numbered}}
 use Rattle.hc_peers.specs.Peers.{is_same}
-use Rattle.hc_proxy.specs.{Connections.{connection_of, dials_from, dials_in, has_unsent, stands}, Invariants.{OpensUp}, Listening.{is_read}, Loops.{Fits, AllFit}, Network.{open_exchanges}, Rows.{Client, Proxy, unused}, Sending.{owed_by, owed_to, is_sent, is_taken, client_is_sent, taker_of, exchange_is_sent}, Sentences.{IsCallAsSaid, LogsAreAsSaid, EndsAreAsSaid, MayStand, whose_at, events_till, opened_in, opened_by}, Standings.{Whose, OfClient, OfExchange, OfNobody, is_right, may_stand, client_stands, number_stands, exchange_stands}, Turns.{so_far, turned, turned_by, behind_all, behind_calls, part_of, events_of, record_of, text_behind, timed_of}}
+use Rattle.hc_proxy.specs.{Connections.{connection_of, dials_from, dials_in, has_unsent, stands}, Invariants.{OpensUp}, Listening.{is_read}, Loops.{Fits, AllFit}, Network.{open_exchanges}, Rows.{Client, Proxy, unused, Setting, setting_of}, Sending.{owed_by, owed_to, is_sent, is_taken, client_is_sent, taker_of, exchange_is_sent}, Sentences.{IsCallAsSaid, LogsAreAsSaid, EndsAreAsSaid, MayStand, whose_at, events_till, opened_in, opened_by}, Standings.{Whose, OfClient, OfExchange, OfNobody, is_right, may_stand, client_stands, number_stands, exchange_stands}, Turns.{so_far, turned, turned_by, behind_all, behind_calls, part_of, events_of, record_of, text_behind, timed_of}}
 use Rattle.hc_proxy.proofs.{Folds.{turned_more}, MoreConnections.{dials_length}, OfferedClients.{was_same}, OpensUp.{entry_opens}, Parts.{turn_part}, Stands.{Stands, loops_are_runs, contents_stay, turns_go, unused_stands}}
 
 -- LISTS AND TESTS
@@ -88,7 +88,7 @@ take_next n [] lt = absurd (omega arith)
 take_next zero (x ∷ xs) lt = (x, refl)
 take_next (suc n) (x ∷ xs) lt = let more = take_next n xs (omega arith) in (more.0, ap (λ ys. x ∷ ys) more.1)
 
-module _ (limits : Limits) (c : Contents) (log : Log) (may : may_begin limits c ≡ true) where
+module _ (limits : Limits) (c : Setting) (log : Log) (may : may_begin limits c.contents ≡ true) where
   abbrev dials : List (Option ℕ)
   dials = dials_from c log.dialled
 
@@ -111,10 +111,10 @@ module _ (limits : Limits) (c : Contents) (log : Log) (may : may_begin limits c 
       ∙ (ap (λ es. es ++ part_of (turned limits dials next.0 before)) rest
       ∙ ap (λ (q : Proxy). events_till limits c log n ++ part_of q) (sym turns)))
 
-  text_said : record_of (behind_all limits c log) ≡ text_behind c.now (events_till limits c log (length log.calls))
+  text_said : record_of (behind_all limits c log) ≡ text_behind c.contents.now (events_till limits c log (length log.calls))
   text_said =
-      ap (λ (d : Contents). text_behind d.now (events_of (behind_all limits c log))) (contents_stay limits c log may)
-      ∙ ap (text_behind c.now)
+      ap (λ (d : Setting). text_behind d.contents.now (events_of (behind_all limits c log))) (contents_stay limits c log may)
+      ∙ ap (text_behind c.contents.now)
       (ap (λ cs. events_of (turned_by limits dials cs (unused c))) (sym (take_all (length log.calls) log.calls (omega arith)))
       ∙ events_are (length log.calls) (omega arith))
 
@@ -140,17 +140,17 @@ opened_are : (limits : Limits) (c : Contents) → may_begin limits c ≡ true �
 unfolding tables
 opened_are limits c may = by_entries limits c (λ h. (tables c h).opened ≡ (c.next_exchange - 1) + opened_by h) (omega arith) (λ h e run before.
     let t = tables c h in
-    let p : Proxy = record (unused c) { tables = t; history = h; moment = t.moment } in
+    let p : Proxy = record (unused (setting_of c false)) { tables = t; history = h; moment = t.moment } in
     let s : Stands limits p = record { begins = may; run = run.0; same = refl; later = omega arith } in
     let up : OpensUp t.opened e.acts (after t e).opened = entry_opens limits p s e run.1 t.opened [] refl in
     let more : (after t e).opened ≡ t.opened + opened_in e.acts = counted e.acts t.opened (after t e).opened up in
     omega arith)
 
-opened_said : (limits : Limits) (c : Contents) (log : Log) → may_begin limits c ≡ true →
-    (behind_all limits c log).tables.opened ≡ (c.next_exchange - 1) + opened_by (behind_all limits c log).history
+opened_said : (limits : Limits) (c : Setting) (log : Log) → may_begin limits c.contents ≡ true →
+    (behind_all limits c log).tables.opened ≡ (c.contents.next_exchange - 1) + opened_by (behind_all limits c log).history
 opened_said limits c log may =
     let r = loops_are_runs limits c log may in
-    ap (λ (t : Tables). t.opened) r.behind ∙ opened_are limits c may (behind_all limits c log).history r.run
+    ap (λ (t : Tables). t.opened) r.behind ∙ opened_are limits c.contents may (behind_all limits c log).history r.run
 
 pub logs_said : LogsAreAsSaid
 logs_said limits c log may l = record {
@@ -159,8 +159,8 @@ logs_said limits c log may l = record {
       let q = turned_by limits dials at.before (unused c) in
       let fits : Fits limits dials q call =
       fit_at limits dials at.before at.after call (unused c) (subst (AllFit limits dials (unused c)) at.calls l.fit) in
-      let began : q.contents ≡ c = (turns_go limits dials at.before (unused c) (unused_stands limits c may)).contents in
-      let fits_so : Fits limits (dials_in q log) q call = subst (λ (d : Contents). Fits limits (dials_from d log.dialled) q call) (sym began) fits in
+      let began : q.setting ≡ c = (turns_go limits dials at.before (unused c) (unused_stands limits c may)).setting in
+      let fits_so : Fits limits (dials_in q log) q call = subst (λ (d : Setting). Fits limits (dials_from d log.dialled) q call) (sym began) fits in
       call_said limits log call p (subst (λ (r : Proxy). Fits limits (dials_in r log) r call) (sym at.tables) fits_so);
   text = text_said limits c log may;
   dials =
@@ -194,7 +194,7 @@ ends_said limits c log may l f =
     record {
       dials =
           let same : length (dials_from c log.dialled) ≡ p.tables.opened =
-          ap (λ (d : Contents). length (dials_from d log.dialled)) (sym (contents_stay limits c log may)) ∙ f.dialled in
+          ap (λ (d : Setting). length (dials_from d log.dialled)) (sym (contents_stay limits c log may)) ∙ f.dialled in
           let size = dials_length c log.dialled in
           let all = opened_said limits c log may in
           omega arith;

@@ -12,6 +12,7 @@ use Rattle.hc_effects.proofs.PieceKeeps.{eq_cases}
 use Rattle.hc_msg.specs.{Inputs.{Next, Waits, Reports, Brings, Ends, Fails, next_in}, Reading.{Reading, Failed, Token, Asks, Answers, Byte}}
 use Rattle.hc_wire.specs.{Logs.{Called}, declared.event.WireEvent.{WireEvent}}
 use Rattle.hc_wire.specs.declared.event.WireEvent.TheVariants as wire
+use Rattle.hc_peers.specs.Renderings.{asked_of, reply_to}
 use Rattle.hc_proxy.specs.{Carrying.{acts_in}, Connections.{exchange_of}, Handling.{is_client, clients_here, inserted, client_comes, left, cancelled, leaves, client_sends, origin_sends, origin_ends, sends, ends, broke, handled_by, handled}, Invariants.{IsHolder, HasConsumers, AreServed}, Keeping.{IsNumbered}, Network.{heard}, Polls.{polled_all, each_polled, live_consumers}, Rows.{Client, Upstream, Proxy, with_client, with_upstream}, Starts.{read_to, asks, with_holder, started, refused, hears_request, hears, is_ready, hears_if, each_heard, started_all}, Steps.{with_entry, stepped}, Turns.{happened}, Waiting.{is_poll}}
 use Rattle.hc_proxy.proofs.{Ascending.{lives_ascend, lives_are}, FewHere.{few_live}, Holders.{held_of, of_held, KeepsWho, change_keeps, sends_keep, reads_keep, refused_keeps, entry_keeps, leave_keeps, start_keeps, idle_leave_keeps, changed_here}, HoldersBegin.{origin_keeps, comes_keeps}, Inserted.{inserted_here, inserted_on, passed_more}, Marked.{among_contained, contained_among}, NetworkKeeps.{is_of_exchange, heard_keeps}, NextAsks.{ready_idle}, Polled.{polls_add}, QuietActs.{AreQuiet, quiet_both, is_quiet_entry}, RowChanges.{fewer}, Served.{served_behind, each_is_by}, SkippedSteps.{among}, Stands.{Stands, law_of, owed_here, goes_on}, StepOn.{start_by}, Turning.{with_new}, ClientEvents.{no_poll}}
 use Rattle.hc_laws.proofs.LiveAfter.{Starts}
@@ -289,28 +290,30 @@ module _ (limits : Limits) where
   unfolding with_entry
   starts_held k r request p row here none open_still w = (
     record {
-      stands = (goes_on limits (event.Start (p.starts + 1) request.request) asked asked_stands).stands;
-      holders = start_keeps limits p (owed limits p.tables p.moment (event.Start (p.starts + 1) request.request)) (law_of limits p w.stands)
-          (e_owed limits (event.Start (p.starts + 1) request.request) p w)
-          k r request row here none open_still w.last few_now (event_is limits (event.Start (p.starts + 1) request.request) p w) w.holders;
-      last = start_by p.tables (owed limits p.tables p.moment (event.Start (p.starts + 1) request.request)) (p.starts + 1) (let le = w.last in omega arith)
-          (subst (IsNumbered (p.starts + 1)) (sym (event_is limits (event.Start (p.starts + 1) request.request) p w)) (omega arith))
-          (is_denied (owed limits p.tables p.moment (event.Start (p.starts + 1) request.request)).acts) refl;
-      listed = λ j some. w.listed j (some_was k (asks (p.starts + 1) request) p j some);
+      stands = (goes_on limits (event.Start (p.starts + 1) (asked_of p.setting.front request)) asked asked_stands).stands;
+      holders = start_keeps limits p (owed limits p.tables p.moment (event.Start (p.starts + 1) (asked_of p.setting.front request))) (law_of limits p w.stands)
+          (e_owed limits (event.Start (p.starts + 1) (asked_of p.setting.front request)) p w)
+          k r (asked_of p.setting.front request) (reply_to p.setting.front request) row here none open_still w.last few_now
+          (event_is limits (event.Start (p.starts + 1) (asked_of p.setting.front request)) p w) w.holders;
+      last = start_by p.tables (owed limits p.tables p.moment (event.Start (p.starts + 1) (asked_of p.setting.front request))) (p.starts + 1)
+          (let le = w.last in omega arith)
+          (subst (IsNumbered (p.starts + 1)) (sym (event_is limits (event.Start (p.starts + 1) (asked_of p.setting.front request)) p w)) (omega arith))
+          (is_denied (owed limits p.tables p.moment (event.Start (p.starts + 1) (asked_of p.setting.front request))).acts) refl;
+      listed = λ j some. w.listed j (some_was k (asks (p.starts + 1) (reply_to p.setting.front request)) p j some);
       few =
-          let le : length (clients_here (with_client k (asks (p.starts + 1) request) p)) ≤ length (clients_here p) =
-          fewer (λ j. is_client (p.client j)) (λ j. is_client ((with_client k (asks (p.starts + 1) request) p).client j)) p.accepted
-          (here_was k (asks (p.starts + 1) request) p (λ s at off. off)) in
+          let le : length (clients_here (with_client k (asks (p.starts + 1) (reply_to p.setting.front request)) p)) ≤ length (clients_here p) =
+          fewer (λ j. is_client (p.client j)) (λ j. is_client ((with_client k (asks (p.starts + 1) (reply_to p.setting.front request)) p).client j)) p.accepted
+          (here_was k (asks (p.starts + 1) (reply_to p.setting.front request)) p (λ s at off. off)) in
           let few = w.few in omega arith;
-      quiet = quiet_now limits (event.Start (p.starts + 1) request.request) p w refl;
+      quiet = quiet_now limits (event.Start (p.starts + 1) (asked_of p.setting.front request)) p w refl;
     },
-    stay_by k (asks (p.starts + 1) request) p (λ s at. refl),
+    stay_by k (asks (p.starts + 1) (reply_to p.setting.front request)) p (λ s at. refl),
   )
     where
       asked : Proxy
-      asked = with_holder (p.starts + 1) k (with_client k (asks (p.starts + 1) request) p)
+      asked = with_holder (p.starts + 1) k (with_client k (asks (p.starts + 1) (reply_to p.setting.front request)) p)
 
-      asked_stands : Stands limits (with_holder (p.starts + 1) k (with_client k (asks (p.starts + 1) request) p))
+      asked_stands : Stands limits (with_holder (p.starts + 1) k (with_client k (asks (p.starts + 1) (reply_to p.setting.front request)) p))
       asked_stands = record { begins = w.stands.begins; run = w.stands.run; same = w.stands.same; later = w.stands.later }
 
       few_now : live p.tables < 1024

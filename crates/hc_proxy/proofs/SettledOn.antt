@@ -52,7 +52,7 @@ module _ {B : Type 0} {g : Ghosts B} where
 
     pub lists_but : KeepsBut z t (record x { upstreams = s }) p
     lists_but = record {
-      cache = cache_moves t.frame x (record x { upstreams = s }) p refl refl refl refl h.cache;
+      cache = cache_moves t.frame x (record x { upstreams = s }) p refl refl refl refl refl h.cache;
       acts = h.acts;
       clients = clients_move t x (record x { upstreams = s }) p refl h.clients;
       consumers = h.consumers;

@@ -3,11 +3,11 @@
 -- The table tells by what stands next what it did: nobody's was to be read, nothing is asked for, or a request. Of
 -- requests no other part stands next (NextAsks), so each case is one of those that StartOne proves. The tables may be
 -- any that the cache stands for: what a call asks for is shown of some of them, since it is a bound.
-use Rattle.std.proofs.{Common.{◌≡◌, ◌≢◌, ◌≤◌, ◌<◌, ◌^◌, ℕ, ◌+◌, List, [], ◌∷◌, true, Some, refl, ap, sym, ◌∙◌, subst, arith}, Math.{Bridge.{le_prop}, Logic.{∥∥₁_map, ∥∥₁_elim}}}
+use Rattle.std.proofs.{Common.{◌≡◌, ◌≢◌, ◌≤◌, ◌<◌, ◌^◌, ℕ, ◌+◌, List, [], ◌∷◌, Bool, true, Some, refl, ap, sym, ◌∙◌, subst, arith}, Math.{Bridge.{le_prop}, Logic.{∥∥₁_map, ∥∥₁_elim}}}
 use Rattle.hc_core.specs.Steps.{faults_in, steps, bytes_received}
 use Rattle.hc_effects.proofs.Vocabulary.{event, Request}
 use Rattle.hc_msg.specs.{Inputs.{Next, Waits, Reports, Brings, Ends, Fails, next_in}, Reading.{Asks, Answers, Byte}}
-use Rattle.hc_peers.specs.{Agreement.{consumer_at}, Clients.{client_of, ready_of, hearing, outcome_of, HearsNext}, declared.clients.{Clients.{Clients}, NextRequest.{NextRequest}}}
+use Rattle.hc_peers.specs.{Agreement.{consumer_at}, Clients.{client_of, ready_of, hearing, outcome_of, HearsNext}, Renderings.{asked_of}, declared.clients.{Clients.{Clients}, NextRequest.{NextRequest}}}
 use Rattle.hc_peers.specs.Clients as clients
 use Rattle.hc_peers.specs.declared.client.Client as peer
 use Rattle.hc_peers.specs.declared.clients.NextRequest.TheVariants as reported
@@ -15,18 +15,18 @@ use Rattle.hc_sched.specs.Schedule.{IsEvent}
 use Rattle.hc_store.specs.declared.backend.Backend.{Ghosts}
 use Rattle.hc_proxy.specs.declared.proxy.Proxy as loop
 use Rattle.hc_proxy.specs.{Invariants.{unread}, Keeping.{Frame, Turn, HasCache, StandsForSome, KeepsHeard, IsHeard, IsNext, Stepped, RestStays, Goes, first_ready}, Rows.{Proxy}, Starts.{hears, each_heard}}
-use Rattle.hc_proxy.proofs.{NextAsks.{of_head, IsNextAsked, next_asks}, NextSpelled.{reported_spelled, start_spelled}, Rows.{holder_of}, StartOne.{nobody_goes, each_is, of_requests, waits_goes, fails_goes, asked_cache, asks_goes}}
+use Rattle.hc_proxy.proofs.{NextAsks.{of_head, IsNextAsked, next_asks}, NextSpelled.{reported_spelled, asked_spelled}, Rows.{holder_of}, StartOne.{nobody_goes, each_is, of_requests, waits_goes, fails_goes, asked_cache, asks_goes}}
 
 -- BY WHAT STANDS NEXT
 
-never_nobody : {A : Type 0} (k : ℕ) (n : Next) → reported.Nobody ≡ outcome_of k n → A
-never_nobody k (Waits reading) is = absurd (let never : reported.Nobody ≡ reported.Nothing = is in cc)
-never_nobody k (Reports (Asks request) reading rest) is = absurd (let never : reported.Nobody ≡ reported.Asks k request.request = is in cc)
-never_nobody k (Reports (Answers response) reading rest) is = absurd (let never : reported.Nobody ≡ reported.Nothing = is in cc)
-never_nobody k (Reports (Byte b) reading rest) is = absurd (let never : reported.Nobody ≡ reported.Nothing = is in cc)
-never_nobody k (Brings bytes reading rest) is = absurd (let never : reported.Nobody ≡ reported.Nothing = is in cc)
-never_nobody k Ends is = absurd (let never : reported.Nobody ≡ reported.Nothing = is in cc)
-never_nobody k (Fails e) is = absurd (let never : reported.Nobody ≡ reported.Nothing = is in cc)
+never_nobody : {A : Type 0} (k : ℕ) (front : Bool) (n : Next) → reported.Nobody ≡ outcome_of k front n → A
+never_nobody k front (Waits reading) is = absurd (let never : reported.Nobody ≡ reported.Nothing = is in cc)
+never_nobody k front (Reports (Asks request) reading rest) is = absurd (let never : reported.Nobody ≡ reported.Asks k (asked_of front request) = is in cc)
+never_nobody k front (Reports (Answers response) reading rest) is = absurd (let never : reported.Nobody ≡ reported.Nothing = is in cc)
+never_nobody k front (Reports (Byte b) reading rest) is = absurd (let never : reported.Nobody ≡ reported.Nothing = is in cc)
+never_nobody k front (Brings bytes reading rest) is = absurd (let never : reported.Nobody ≡ reported.Nothing = is in cc)
+never_nobody k front Ends is = absurd (let never : reported.Nobody ≡ reported.Nothing = is in cc)
+never_nobody k front (Fails e) is = absurd (let never : reported.Nobody ≡ reported.Nothing = is in cc)
 
 asks_nothing : {A : Type 0} (k : ℕ) (r : Request) → reported.Asks k r ≡ reported.Nothing → A
 asks_nothing k r is = absurd (let never : reported.Asks k r ≡ reported.Nothing = is in cc)
@@ -42,25 +42,26 @@ same_request j k r q is = ap (λ (z : NextRequest). request_of z q) is
 
 -- THE LISTS
 
-pub nobody_left : (c : ℕ) (old new : Clients) → HearsNext c old new reported.Nobody → ready_of old ≡ []
-nobody_left c old new (clients.nobody none is stays) = none
-nobody_left c old new (clients.somebody w) = never_nobody w.k (next_in 1 w.client.reader w.client.input) w.result_is
+pub nobody_left : (c : ℕ) (front : Bool) (old new : Clients) → HearsNext c front old new reported.Nobody → ready_of old ≡ []
+nobody_left c front old new (clients.nobody none is stays) = none
+nobody_left c front old new (clients.somebody w) = never_nobody w.k _ (next_in 1 w.client.reader w.client.input) w.result_is
 
-pub one_less : (c : ℕ) (old new : Clients) (result : NextRequest) → (result ≡ reported.Nobody → ⊥) → HearsNext c old new result →
+pub one_less : (c : ℕ) (front : Bool) (old new : Clients) (result : NextRequest) → (result ≡ reported.Nobody → ⊥) → HearsNext c front old new result →
     IsNext true (ready_of old) (ready_of new)
-one_less c old new result some (clients.nobody none is stays) = absurd (some is)
-one_less c old new result some (clients.somebody w) = (w.k, w.first ∙ ap (λ (ks : List ℕ). w.k ∷ ks) (sym w.others))
+one_less c front old new result some (clients.nobody none is stays) = absurd (some is)
+one_less c front old new result some (clients.somebody w) = (w.k, w.first ∙ ap (λ (ks : List ℕ). w.k ∷ ks) (sym w.others))
 
 -- ITS EVENT has a spelling
 
-pub start_event : (c : ℕ) (old new : Clients) (k : ℕ) (r : Request) → c < 2 ^ 62 → HearsNext c old new (reported.Asks k r) → IsEvent (event.Start c r)
-start_event c old new k r small (clients.nobody none is stays) = absurd (let never : reported.Asks k r ≡ reported.Nobody = is in cc)
-start_event c old new k r small (clients.somebody w) = by_next (next_in 1 w.client.reader w.client.input) refl w.result_is
+pub start_event : (c : ℕ) (front : Bool) (old new : Clients) (k : ℕ) (r : Request) → c < 2 ^ 62 → HearsNext c front old new (reported.Asks k r) →
+    IsEvent (event.Start c r)
+start_event c front old new k r small (clients.nobody none is stays) = absurd (let never : reported.Asks k r ≡ reported.Nobody = is in cc)
+start_event c front old new k r small (clients.somebody w) = by_next (next_in 1 w.client.reader w.client.input) refl w.result_is
   where
-    by_next : (n : Next) → next_in 1 w.client.reader w.client.input ≡ n → reported.Asks k r ≡ outcome_of w.k n → IsEvent (event.Start c r)
+    by_next : (n : Next) → next_in 1 w.client.reader w.client.input ≡ n → reported.Asks k r ≡ outcome_of w.k front n → IsEvent (event.Start c r)
     by_next (Reports (Asks request) reading rest) at is =
-        subst (λ (q : Request). IsEvent (event.Start c q)) (sym (same_request k w.k r request.request is))
-        (start_spelled c request.request small (reported_spelled 1 w.client.reader w.client.input (Asks request) reading rest at))
+        subst (λ (q : Request). IsEvent (event.Start c q)) (sym (same_request k w.k r (asked_of front request) is))
+        (asked_spelled c front request small (reported_spelled 1 w.client.reader w.client.input (Asks request) reading rest at))
     by_next (Waits reading) at is = asks_nothing k r is
     by_next (Reports (Answers response) reading rest) at is = asks_nothing k r is
     by_next (Reports (Byte b) reading rest) at is = asks_nothing k r is
@@ -74,8 +75,8 @@ module _ {B : Type 0} {g : Ghosts B} where
   pub few_starts : (x : loop.Proxy B g) → ∥ IsHeard x ∥₁ → x.starts < 2 ^ 61 + steps x.cache
   few_starts x some = ∥∥₁_elim some le_prop (λ s.
       let a : x.starts ≡ s.1.starts = s.2.quiet.keeps.cache.starts in
-      let b : s.1.starts ≤ s.1.contents.last_consumer + steps x.cache = s.2.quiet.keeps.numbers in
-      let room : s.1.contents.last_consumer < 2 ^ 61 = s.2.quiet.keeps.cache.room in
+      let b : s.1.starts ≤ s.1.setting.contents.last_consumer + steps x.cache = s.2.quiet.keeps.numbers in
+      let room : s.1.setting.contents.last_consumer < 2 ^ 61 = s.2.quiet.keeps.cache.room in
       omega arith)
 
   pub few_bytes : (x : loop.Proxy B g) → ∥ IsHeard x ∥₁ → bytes_received x.cache + 0 < 2 ^ 61
@@ -101,7 +102,7 @@ module _ {B : Type 0} {g : Ghosts B} where
         w.0.frame,
         record w.1 { starts = w.1.starts + 1 },
         record {
-          contents = z.contents;
+          setting = z.setting;
           stands = z.stands;
           same = z.same;
           limits = z.limits;
@@ -109,6 +110,7 @@ module _ {B : Type 0} {g : Ghosts B} where
           early = z.early;
           last = z.last;
           starts = ap (λ (m : ℕ). m + 1) z.starts;
+          front = z.front;
           last_start = (let le : w.1.tables.last_start ≤ w.1.starts = z.last_start in omega arith);
           text = z.text;
           recorded = z.recorded;
@@ -125,23 +127,23 @@ module _ {B : Type 0} {g : Ghosts B} where
   -- WHAT IS DONE
 
   module _ (t : Turn) (x : loop.Proxy B g) (p : Proxy) (h : KeepsHeard t x p) (s : Clients) where
-    pub goes_nobody : HearsNext (x.starts + 1) x.clients s reported.Nobody →
+    pub goes_nobody : HearsNext (x.starts + 1) x.front x.clients s reported.Nobody →
         Goes (KeepsHeard t) (faults_in x.cache) (record x { clients = s }) (each_heard t.frame.limits t.call (first_ready (ready_of x.clients)) p)
     goes_nobody (clients.nobody none is stays) = nobody_goes t x p h s stays none
-    goes_nobody (clients.somebody w) = never_nobody w.k (next_in 1 w.client.reader w.client.input) w.result_is
+    goes_nobody (clients.somebody w) = never_nobody w.k _ (next_in 1 w.client.reader w.client.input) w.result_is
 
-    nothing_by : (w : clients.IsHeard (x.starts + 1) x.clients s reported.Nothing) (n : Next) → IsNextAsked n →
-        clients.Becomes w.k (Some (hearing (x.starts + 1) n w.client)) x.clients s → reported.Nothing ≡ outcome_of w.k n →
+    nothing_by : (w : clients.IsHeard (x.starts + 1) x.front x.clients s reported.Nothing) (n : Next) → IsNextAsked n →
+        clients.Becomes w.k (Some (hearing (x.starts + 1) x.front n w.client)) x.clients s → reported.Nothing ≡ outcome_of w.k x.front n →
         Goes (KeepsHeard t) (faults_in x.cache) (record x { clients = s }) (hears t.frame.limits w.k n p)
     nothing_by w (Waits reading) of becomes is = waits_goes t x p h w.k w.rest w.client w.first w.row reading s (of_head reading of) becomes
-    nothing_by w (Reports (Asks request) reading rest) of becomes is = asks_nothing w.k request.request (sym is)
+    nothing_by w (Reports (Asks request) reading rest) of becomes is = asks_nothing w.k (asked_of x.front request) (sym is)
     nothing_by w (Reports (Answers response) reading rest) of becomes is = absurd of
     nothing_by w (Reports (Byte b) reading rest) of becomes is = absurd of
     nothing_by w (Brings bytes reading rest) of becomes is = absurd of
     nothing_by w Ends of becomes is = absurd of
     nothing_by w (Fails e) of becomes is = fails_goes t x p h w.k w.rest w.client w.first w.row e s becomes
 
-    pub goes_nothing : HearsNext (x.starts + 1) x.clients s reported.Nothing →
+    pub goes_nothing : HearsNext (x.starts + 1) x.front x.clients s reported.Nothing →
         Goes (KeepsHeard t) (faults_in x.cache) (record x { clients = s }) (each_heard t.frame.limits t.call (first_ready (ready_of x.clients)) p)
     goes_nothing (clients.nobody none is stays) = absurd (let never : reported.Nothing ≡ reported.Nobody = is in cc)
     goes_nothing (clients.somebody w) =
@@ -153,10 +155,13 @@ module _ {B : Type 0} {g : Ghosts B} where
         (steps_by : (f : Frame) (q : Proxy) → HasCache f (record x { clients = s; starts = x.starts + 1 }) q →
         unread q + bytes_received x.cache + 0 ≤ f.bytes → Stepped f (record x { clients = s; starts = x.starts + 1 }) x' (event.Start (x.starts + 1) r) q)
         (stay : RestStays (record x { clients = s; starts = x.starts + 1 }) x') (moved : x'.moved ≡ true) (count : steps x'.cache ≡ steps x.cache + 1) where
-      asked_by : (w : clients.IsHeard (x.starts + 1) x.clients s (reported.Asks k r)) (n : Next) → IsNextAsked n → clients.Becomes w.k (Some (hearing (x.starts + 1) n w.client)) x.clients s → reported.Asks k r ≡ outcome_of w.k n → Goes (KeepsHeard t) (faults_in x.cache) x' (hears t.frame.limits w.k n p)
+      asked_by : (w : clients.IsHeard (x.starts + 1) x.front x.clients s (reported.Asks k r)) (n : Next) → IsNextAsked n →
+          clients.Becomes w.k (Some (hearing (x.starts + 1) x.front n w.client)) x.clients s → reported.Asks k r ≡ outcome_of w.k x.front n →
+          Goes (KeepsHeard t) (faults_in x.cache) x' (hears t.frame.limits w.k n p)
       asked_by w (Reports (Asks request) reading left) of becomes is =
           let c = asked_cache t x p h w.k w.rest w.client w.first w.row request reading left (of_head reading of) s becomes in
-          asks_goes t x p h w.k w.rest w.client w.first w.row request reading left (of_head reading of) s becomes r (same_request k w.k r request.request is) x'
+          asks_goes t x p h w.k w.rest w.client w.first w.row request reading left (of_head reading of) s becomes r
+          (same_request k w.k r (asked_of x.front request) is) x'
           (steps_by t.frame _ c (let all : unread p + bytes_received x.cache ≤ t.frame.bytes = h.quiet.keeps.cache.small in omega arith)) stay moved count
       asked_by w (Waits reading) of becomes is = asks_nothing k r is
       asked_by w (Reports (Answers response) reading rest) of becomes is = absurd of
@@ -165,7 +170,7 @@ module _ {B : Type 0} {g : Ghosts B} where
       asked_by w Ends of becomes is = absurd of
       asked_by w (Fails e) of becomes is = asks_nothing k r is
 
-      pub goes_asks : HearsNext (x.starts + 1) x.clients s (reported.Asks k r) →
+      pub goes_asks : HearsNext (x.starts + 1) x.front x.clients s (reported.Asks k r) →
           Goes (KeepsHeard t) (faults_in x.cache) x' (each_heard t.frame.limits t.call (first_ready (ready_of x.clients)) p)
       goes_asks (clients.nobody none is stays) = absurd (let never : reported.Asks k r ≡ reported.Nobody = is in cc)
       goes_asks (clients.somebody w) =

@@ -10,7 +10,7 @@ use Rattle.hc_core.specs.Steps.{faults_in, steps}
 use Rattle.hc_effects.proofs.Vocabulary.{event, Request, live, Entry, owed}
 use Rattle.hc_head.specs.declared.message.{MsgError.{MsgError}, WireRequest.{WireRequest}}
 use Rattle.hc_msg.specs.{Inputs.{Next, next_in}, Reading.{Reading, Failed}}
-use Rattle.hc_peers.specs.{Agreement.{ready_at}, Clients.{client_of, ready_of}, Renderings.{empty_answer, error_status}, Upstreams.{upstream_of}, declared.clients.Clients.{Clients}}
+use Rattle.hc_peers.specs.{Agreement.{ready_at}, Clients.{client_of, ready_of}, Renderings.{asked_of, reply_to, empty_answer, error_status}, Upstreams.{upstream_of}, declared.{clients.Clients.{Clients}, reply.Reply.{Reply}}}
 use Rattle.hc_peers.specs.Clients as clients
 use Rattle.hc_peers.specs.Peers as peers
 use Rattle.hc_peers.specs.declared.client.Client as peer
@@ -79,15 +79,15 @@ read_is taken client r reading left of is =
       asking = of;
     }
 
-asks_is : (taken c d : ℕ) (client : peer.Client) (r : Client) (request : WireRequest) → c ≡ d → IsClient taken client r →
-    IsClient taken (peers.asks c request client) (asks d request r)
-asks_is taken c d client r request same is =
+asks_is : (taken c d : ℕ) (client : peer.Client) (r : Client) (reply reply' : Reply) → c ≡ d → reply ≡ reply' → IsClient taken client r →
+    IsClient taken (peers.asks c reply client) (asks d reply' r)
+asks_is taken c d client r reply reply' same alike is =
     record {
       here = is.here;
       reading = is.reading;
       input = is.input;
       consumer = ap Some same;
-      reply = refl;
+      reply = alike;
       closing = is.closing;
       within = is.within;
       unsent = is.unsent;
@@ -120,7 +120,7 @@ module _ {B : Type 0} {g : Ghosts B} (t : Turn) (x : loop.Proxy B g) (p : Proxy)
   stays_heard s stays = record {
     quiet = record {
       keeps = record {
-        cache = cache_moves t.frame x (record x { clients = s }) p refl refl refl refl keeps.cache;
+        cache = cache_moves t.frame x (record x { clients = s }) p refl refl refl refl refl keeps.cache;
         acts = keeps.acts;
         clients = record {
           rows = λ j. subst (λ o. IsClientAt (taken_at t.call j) o (p.client j)) (sym (stays j)) (keeps.clients.rows j);
@@ -243,7 +243,7 @@ module _ {B : Type 0} {g : Ghosts B} (t : Turn) (x : loop.Proxy B g) (p : Proxy)
         changed_heard = record {
           quiet = record {
             keeps = record {
-              cache = cache_moves t.frame x (record x { clients = s }) (with_client k change p) refl refl refl refl
+              cache = cache_moves t.frame x (record x { clients = s }) (with_client k change p) refl refl refl refl refl
                   (cache_with t.frame x p (with_client k change p).client p.accepted keeps.cache);
               acts = keeps.acts;
               clients = clients_now;
@@ -297,41 +297,49 @@ module _ {B : Type 0} {g : Ghosts B} (t : Turn) (x : loop.Proxy B g) (p : Proxy)
     -- A REQUEST
 
     module _ (request : WireRequest) (reading : Reading) (left : List ℕ) (of : IsOfRequests reading) (s : Clients)
-        (becomes : clients.Becomes k (Some (peers.asks (x.starts + 1) request (peers.read_to reading left client))) x.clients s) where
+        (becomes : clients.Becomes k (Some (peers.asks (x.starts + 1) (reply_to x.front request) (peers.read_to reading left client))) x.clients s) where
       abbrev pub mid : loop.Proxy B g
       mid = record x { clients = s; starts = x.starts + 1 }
 
       abbrev c : ℕ
       c = p.starts + 1
 
+      abbrev reply : Reply
+      reply = reply_to p.setting.front request
+
+      abbrev wanted : Request
+      wanted = asked_of p.setting.front request
+
       abbrev read : Proxy
       read = with_client k (read_to reading left) p
 
       abbrev pub asked : Proxy
-      asked = with_holder c k (with_client k (asks c request) read)
+      asked = with_holder c k (with_client k (asks c reply) read)
 
       abbrev now : peer.Client
-      now = peers.asks (x.starts + 1) request (peers.read_to reading left client)
+      now = peers.asks (x.starts + 1) (reply_to x.front request) (peers.read_to reading left client)
 
       abbrev once : Client → Client
-      once r = asks c request (read_to reading left r)
+      once r = asks c reply (read_to reading left r)
 
       numbers_same : x.starts + 1 ≡ c
       numbers_same = ap (λ (m : ℕ). m + 1) keeps.cache.starts
 
       twice : asked.client ≡ changed k once p.client
-      twice = both_changes k (asks c request) (read_to reading left) p.client
+      twice = both_changes k (asks c reply) (read_to reading left) p.client
 
       alike : IsClient (taken_at t.call k) now (once one.row)
       alike =
-          asks_is (taken_at t.call k) (x.starts + 1) c (peers.read_to reading left client) (read_to reading left one.row) request numbers_same
+          asks_is (taken_at t.call k) (x.starts + 1) c (peers.read_to reading left client) (read_to reading left one.row)
+          (reply_to x.front request) reply numbers_same
+          (ap (λ (b : Bool). reply_to b request) keeps.cache.front)
           (read_is (taken_at t.call k) client one.row reading left of one.is)
 
       pub asked_cache : HasCache t.frame mid asked
       asked_cache =
           let z = keeps.cache in
           record {
-            contents = z.contents;
+            setting = z.setting;
             stands = z.stands;
             same = z.same;
             limits = z.limits;
@@ -339,6 +347,7 @@ module _ {B : Type 0} {g : Ghosts B} (t : Turn) (x : loop.Proxy B g) (p : Proxy)
             early = z.early;
             last = z.last;
             starts = numbers_same;
+            front = z.front;
             last_start = (let le : p.tables.last_start ≤ p.starts = z.last_start in omega arith);
             text = z.text;
             recorded = z.recorded;
@@ -358,7 +367,7 @@ module _ {B : Type 0} {g : Ghosts B} (t : Turn) (x : loop.Proxy B g) (p : Proxy)
           (record { rows = a.rows; order = a.order; listed = a.listed; few = a.few })
 
       back : (j : ℕ) → IsSome (asked.client j) → IsSome (p.client j)
-      back j some = some_back k (read_to reading left) p.client j (some_back k (asks c request) read.client j some)
+      back j some = some_back k (read_to reading left) p.client j (some_back k (asks c reply) read.client j some)
 
       asked_upstreams : HasUpstreams t mid asked (acts_in p.part)
       asked_upstreams = record {
@@ -378,7 +387,7 @@ module _ {B : Type 0} {g : Ghosts B} (t : Turn) (x : loop.Proxy B g) (p : Proxy)
       asked_seen : AreSeen t asked
       asked_seen j unseen =
           let was = keeps.seen j unseen in
-          (none_on k (asks c request) read.client j (none_on k (read_to reading left) p.client j was.0), was.1, was.2)
+          (none_on k (asks c reply) read.client j (none_on k (read_to reading left) p.client j was.0), was.1, was.2)
 
       read_row : read.client k ≡ Some (read_to reading left one.row)
       read_row = changed_here k (read_to reading left) p one.row one.at
@@ -392,12 +401,12 @@ module _ {B : Type 0} {g : Ghosts B} (t : Turn) (x : loop.Proxy B g) (p : Proxy)
           let most : length (clients_here p) ≤ 512 = keeps.clients.few in
           omega arith
 
-      module _ (r : Request) (r_is : r ≡ request.request) (x' : loop.Proxy B g) (st : Stepped t.frame mid x' (event.Start (x.starts + 1) r) asked)
+      module _ (r : Request) (r_is : r ≡ asked_of x.front request) (x' : loop.Proxy B g) (st : Stepped t.frame mid x' (event.Start (x.starts + 1) r) asked)
           (stay : RestStays mid x') (moved : x'.moved ≡ true) (count : steps x'.cache ≡ steps x.cache + 1) where
-        event_same : event.Start (x.starts + 1) r ≡ event.Start c request.request
-        event_same = ap (λ (m : ℕ). event.Start m r) numbers_same ∙ ap (event.Start c) r_is
+        event_same : event.Start (x.starts + 1) r ≡ event.Start c wanted
+        event_same = ap (λ (m : ℕ). event.Start m r) numbers_same ∙ ap (event.Start c) (r_is ∙ ap (λ (b : Bool). asked_of b request) keeps.cache.front)
 
-        event_is : st.e.event ≡ event.Start c request.request
+        event_is : st.e.event ≡ event.Start c wanted
         event_is = st.event_is ∙ event_same
 
         stops_none : (y : ℕ) → Stops y st.e.event → ⊥
@@ -411,7 +420,7 @@ module _ {B : Type 0} {g : Ghosts B} (t : Turn) (x : loop.Proxy B g) (p : Proxy)
 
         consumers : HasConsumers (with_entry st.e asked)
         consumers =
-            start_keeps t.frame.limits read st.e (law_of t.frame x p keeps.cache) st.is_owed k (read_to reading left one.row) request read_row one.is.here
+            start_keeps t.frame.limits read st.e (law_of t.frame x p keeps.cache) st.is_owed k (read_to reading left one.row) wanted reply read_row one.is.here
             waits_not unshut
             keeps.cache.last_start few event_is read_keeps
 
@@ -420,8 +429,11 @@ module _ {B : Type 0} {g : Ghosts B} (t : Turn) (x : loop.Proxy B g) (p : Proxy)
             keeps_on t mid x' (event.Start (x.starts + 1) r) asked (stands_of t.frame mid asked asked_cache) keeps.cache.unopened keeps.acts asked_clients
             asked_upstreams asked_wire asked_seen
             keeps.shut keeps.known st stay stops_none consumers
-            (let le : p.starts ≤ p.contents.last_consumer + steps x.cache = keeps.numbers in let n1 : steps x'.cache ≡ steps x.cache + 1 = count in omega arith)
-            (let le : p.tables.opened ≤ p.contents.next_exchange + steps x.cache = keeps.opened in let n1 : steps x'.cache ≡ steps x.cache + 1 = count in
+            (let le : p.starts ≤ p.setting.contents.last_consumer + steps x.cache = keeps.numbers in
+            let n1 : steps x'.cache ≡ steps x.cache + 1 = count in
+            omega arith)
+            (let le : p.tables.opened ≤ p.setting.contents.next_exchange + steps x.cache = keeps.opened in
+            let n1 : steps x'.cache ≡ steps x.cache + 1 = count in
             omega arith)
 
         asked_heard : KeepsHeard t x' (with_entry st.e asked)

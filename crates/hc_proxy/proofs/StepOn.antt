@@ -89,11 +89,11 @@ start_by t e starts le is false accepted = rw accepted (started_by e.event t.las
 module _ {B : Type 0} {g : Ghosts B} where
   -- WHAT THE CACHE STANDS FOR
 
-  pub run_of : (f : Frame) (x : loop.Proxy B g) (p : Proxy) → HasCache f x p → IsRun f.limits p.contents p.history
-  run_of f x p h = subst (λ (l : Limits). IsRun l p.contents p.history) h.limits h.stands.run
+  pub run_of : (f : Frame) (x : loop.Proxy B g) (p : Proxy) → HasCache f x p → IsRun f.limits p.setting.contents p.history
+  run_of f x p h = subst (λ (l : Limits). IsRun l p.setting.contents p.history) h.limits h.stands.run
 
-  pub begins_of : (f : Frame) (x : loop.Proxy B g) (p : Proxy) → HasCache f x p → may_begin f.limits p.contents ≡ true
-  begins_of f x p h = subst (λ (l : Limits). may_begin l p.contents ≡ true) h.limits h.stands.begins
+  pub begins_of : (f : Frame) (x : loop.Proxy B g) (p : Proxy) → HasCache f x p → may_begin f.limits p.setting.contents ≡ true
+  begins_of f x p h = subst (λ (l : Limits). may_begin l p.setting.contents ≡ true) h.limits h.stands.begins
 
   pub stands_of : (f : Frame) (x : loop.Proxy B g) (p : Proxy) → HasCache f x p → Stands f.limits p
   stands_of f x p h = record {
@@ -101,14 +101,14 @@ module _ {B : Type 0} {g : Ghosts B} where
     run = run_of f x p h;
     same = h.same;
     later =
-        let a : last_moment x.cache ≡ (tables p.contents p.history).moment = h.stands.moment in
-        let b : p.tables.moment ≡ (tables p.contents p.history).moment = ap (λ (t : Tables). t.moment) h.same in
+        let a : last_moment x.cache ≡ (tables p.setting.contents p.history).moment = h.stands.moment in
+        let b : p.tables.moment ≡ (tables p.setting.contents p.history).moment = ap (λ (t : Tables). t.moment) h.same in
         let le : last_moment x.cache ≤ p.moment = h.last in
         omega arith;
   }
 
   pub law_of : (f : Frame) (x : loop.Proxy B g) (p : Proxy) → HasCache f x p → Lawful p.tables
-  law_of f x p h = subst Lawful (sym h.same) (lawful_in_runs f.limits p.contents p.history (begins_of f x p h) (run_of f x p h))
+  law_of f x p h = subst Lawful (sym h.same) (lawful_in_runs f.limits p.setting.contents p.history (begins_of f x p h) (run_of f x p h))
 
   -- ONE STEP
 
@@ -118,19 +118,19 @@ module _ {B : Type 0} {g : Ghosts B} where
     abbrev pub entry : Entry
     entry = record { now = x.now; event = ev; acts = s.acts }
 
-    behind : StandsFor x'.cache p.contents (entry ∷ p.history)
-    behind = s.answered.stands p.contents p.history h.stands
+    behind : StandsFor x'.cache p.setting.contents (entry ∷ p.history)
+    behind = s.answered.stands p.setting.contents p.history h.stands
 
     limits_are : limits_in x'.cache ≡ f.limits
     limits_are = s.answered.limits ∙ h.limits
 
-    runs : IsRun (limits_in x'.cache) p.contents (entry ∷ p.history)
+    runs : IsRun (limits_in x'.cache) p.setting.contents (entry ∷ p.history)
     runs = behind.run
 
     is_owed : IsOwed f.limits p.tables entry
     is_owed =
         subst (λ (t : Tables). IsOwed f.limits t entry) (sym h.same)
-        (subst (λ (l : Limits). IsOwed l (tables p.contents p.history) entry) limits_are runs.1)
+        (subst (λ (l : Limits). IsOwed l (tables p.setting.contents p.history) entry) limits_are runs.1)
 
     stands : Stands f.limits p
     stands = stands_of f x p h
@@ -155,16 +155,16 @@ module _ {B : Type 0} {g : Ghosts B} where
       text_is : record_of (with_entry entry p) ≡ f.written ++ text_of x'.record
       unfolding with_entry
       text_is =
-          record_more p.contents.now entry p.history
-          ∙ (ap (λ (z : List ℕ). z ++ timed_text (last_event p.contents.now p.history) (record { now = x.now; event = ev })) h.text
-          ∙ (append_assoc f.written (text_of x.record) (timed_text (last_event p.contents.now p.history) (record { now = x.now; event = ev }))
+          record_more p.setting.contents.now entry p.history
+          ∙ (ap (λ (z : List ℕ). z ++ timed_text (last_event p.setting.contents.now p.history) (record { now = x.now; event = ev })) h.text
+          ∙ (append_assoc f.written (text_of x.record) (timed_text (last_event p.setting.contents.now p.history) (record { now = x.now; event = ev }))
           ∙ ap (λ (z : List ℕ). f.written ++ z)
           (ap (λ (n : ℕ). text_of x.record ++ timed_text n (record { now = x.now; event = ev })) (sym h.recorded) ∙ sym text)))
 
       has_cache : HasCache f x' (with_entry entry p)
       unfolding with_entry tables
       has_cache = record {
-        contents = h.contents;
+        setting = h.setting;
         stands = behind;
         same = ap (λ (t : Tables). after t entry) h.same;
         limits = limits_are;
@@ -172,6 +172,7 @@ module _ {B : Type 0} {g : Ghosts B} where
         early = h.early;
         last = (let a : last_moment x'.cache ≡ x.now = moment in let b : x.now ≡ p.moment = h.now in omega arith);
         starts = rest.starts ∙ h.starts;
+        front = rest.front ∙ h.front;
         last_start = start_by p.tables entry p.starts h.last_start numbered_here (is_denied entry.acts) refl;
         text = text_is;
         recorded = last;

@@ -9,9 +9,8 @@ use Rattle.hc_peers.specs.declared.client.Client as peer
 use Rattle.hc_store.specs.declared.backend.Backend.{Ghosts}
 use Rattle.hc_wire.specs.{Events.{Stage, Unseen, Open, Closed, Fresh, IsOpen, IsOfOpen, FitsIn, ended_of, stages_after, got_bytes}, Logs.{Log, Taker, Called, Reports, is_numbered, over, standings_in, stage_from, stage_in, sent_from, sent_in, takers_with, with_call}, declared.event.WireEvent.{WireEvent}}
 use Rattle.hc_wire.specs.declared.event.WireEvent.TheVariants as event
-use Rattle.hc_effects.proofs.Vocabulary.{Contents}
 use Rattle.hc_proxy.specs.declared.proxy.Proxy as loop
-use Rattle.hc_proxy.specs.{Connections.{dials_from, dials_in, stands, taken_at}, Handling.{begun, seen_at, clients_here, is_client}, Invariants.{HasConsumers}, Keeping.{Frame, Turn, HasCache, HasClients, HasUpstreams, IsClient, IsClientAt, AtWire, Begun}, Resting.{IsRestingAt, Rests}, Rows.{Client, Proxy}, Serving.{IsStill}, Standings.{client_stands}, Underway.{OnWire}}
+use Rattle.hc_proxy.specs.{Connections.{dials_from, dials_in, stands, taken_at}, Handling.{begun, seen_at, clients_here, is_client}, Invariants.{HasConsumers}, Keeping.{Frame, Turn, HasCache, HasClients, HasUpstreams, IsClient, IsClientAt, AtWire, Begun}, Resting.{IsRestingAt, Rests}, Rows.{Client, Proxy, Setting}, Serving.{IsStill}, Standings.{client_stands}, Underway.{OnWire}}
 use Rattle.hc_proxy.proofs.{Fitting.{client_there_stands, nobody_stands}, Followed.{follows_call, sent_changed, sent_new, unseen_none}, HoldersBegin.{AllStand, begin_keeps}, RowChanges.{fewer}, TakersStand.{taken_found, taken_missing, stands_found, open_taker, sent_found}}
 
 -- what the call tells
@@ -94,7 +93,7 @@ module _ {B : Type 0} {g : Ghosts B} (n : ℕ) (f : Frame) (x : loop.Proxy B g) 
 
   cache : HasCache frame x' (begun call p)
   cache = record {
-    contents = r.cache.contents;
+    setting = r.cache.setting;
     stands = r.cache.stands;
     same = r.cache.same;
     limits = r.cache.limits;
@@ -102,6 +101,7 @@ module _ {B : Type 0} {g : Ghosts B} (n : ℕ) (f : Frame) (x : loop.Proxy B g) 
     early = let lt : p.moment < 2 ^ 62 = r.cache.early in omega arith;
     last = let le = r.cache.last in omega arith;
     starts = r.cache.starts;
+    front = r.cache.front;
     last_start = r.cache.last_start;
     text = r.cache.text;
     recorded = r.cache.recorded;
@@ -309,6 +309,6 @@ module _ {B : Type 0} {g : Ghosts B} (n : ℕ) (f : Frame) (x : loop.Proxy B g) 
   on_wire reports = record {
     follows = follows_call reported reported' stages stages' log s.follows wait moment what (got_bytes what slice) of_open reports stand;
     stands = λ k. refl;
-    dialled = ap (λ (c : Contents). dials_from c log.dialled) (sym r.cache.contents);
+    dialled = ap (λ (c : Setting). dials_from c log.dialled) (sym r.cache.setting);
     taken = taken_same;
   }

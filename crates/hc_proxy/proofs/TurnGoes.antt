@@ -7,13 +7,13 @@
 use Rattle.std.{proofs.{Common.{◌≡◌, ◌⊎◌, ◌≤◌, ◌<◌, ◌^◌, ℕ, ◌+◌, List, [], ◌∷◌, ◌++◌, Bool, true, false, Option, Some, None, refl, ap, sym, ◌∙◌, subst, arith, append_assoc, append-nil, take_all}, lemmas.List.{length-append, take-append-le}}, specs.{Prelude.{length, map, take, max, reverse, find, Result, IfOk, OnErr}, List.{list_all}}}
 use Rattle.hc_core.specs.Steps.{steps, faults_in}
 use Rattle.hc_io.proofs.Takings.{takes_none}
-use Rattle.hc_effects.proofs.Vocabulary.{Contents, may_begin, Entry, History, Limits, Tables}
+use Rattle.hc_effects.proofs.Vocabulary.{may_begin, Entry, History, Limits, Tables}
 use Rattle.hc_store.specs.declared.backend.Backend.{Ghosts}
 use Rattle.hc_sched.specs.Schedule.{timed_text}
 use Rattle.hc_wire.specs.{Events.{Stage, Unseen, IsOfOpen, FitsIn, stages_after, got_bytes}, Logs.{Log, Called, Reports, is_numbered, stage_from, with_call}, declared.event.WireEvent.{WireEvent}}
 use Rattle.hc_wire.specs.declared.event.WireEvent.TheVariants as event
 use Rattle.hc_proxy.specs.declared.proxy.Proxy as loop
-use Rattle.hc_proxy.specs.{declared.stop.Stop.{Stop}, Carrying.{acts_in, carried}, Connections.{dials_from, dials_in}, Endings.{SentOn, was_sent}, Handling.{begun}, Invariants.{AreServed, last_event}, Keeping.{Frame, Turn, Begun, KeepsPolled, Goes}, Loops.{Fits, AllFit}, Records.{text_of}, Rows.{Proxy, unused}, Serving.{IsOfLoop, IsCutShort, IsStill, FinishesTurn, CutsTurn, TurnsTo, TurnStops}, Turns.{so_far, happened, turned, turned_by, behind_all, behind_calls, record_of, timed_of, text_behind}, Underway.{OnWire, IsPolledOn}, Waiting.{waits}}
+use Rattle.hc_proxy.specs.{declared.stop.Stop.{Stop}, Carrying.{acts_in, carried}, Connections.{dials_from, dials_in}, Endings.{SentOn, was_sent}, Handling.{begun}, Invariants.{AreServed, last_event}, Keeping.{Frame, Turn, Begun, KeepsPolled, Goes}, Loops.{Fits, AllFit}, Records.{text_of}, Rows.{Proxy, unused, Setting}, Serving.{IsOfLoop, IsCutShort, IsStill, FinishesTurn, CutsTurn, TurnsTo, TurnStops}, Turns.{so_far, happened, turned, turned_by, behind_all, behind_calls, record_of, timed_of, text_behind}, Underway.{OnWire, IsPolledOn}, Waiting.{waits}}
 use Rattle.hc_proxy.proofs.{Fitting.{dialled_all, fits_now}, Folds.{turned_more, fit_more}, Later.{carried_is_same, record_carried}, LetGo.{AreGone, turns_gone, unused_gone}, Marked.{contained_among}, MoreConnections.{dials_more}, MoreDials.{turn_same, turns_same, fits_same, all_fit}, Openings.{StandsKnown, unused_known, turns_know}, Parts.{turn_part}, SentStill.{sent_still}, ServedTurn.{WellHeld, happened_served}, SkippedSteps.{among}, Stands.{turn_goes, unused_stands}, StepOn.{stands_of, begins_of}, Texts.{record_more}}
 use Rattle.hc_proxy.proofs.TurnBegins as begins
 use Rattle.hc_peers.proofs.Outcomes.{err-map, if_ok-map}
@@ -32,7 +32,7 @@ grown n (e ∷ es) h =
 
 -- THE LOG, with one more call and more dials
 
-module _ (limits : Limits) (c : Contents) (may : may_begin limits c ≡ true) (log : Log) (p : Proxy) (call : Called) (l : IsOfLoop limits c log p)
+module _ (limits : Limits) (c : Setting) (may : may_begin limits c.contents ≡ true) (log : Log) (p : Proxy) (call : Called) (l : IsOfLoop limits c log p)
     (enough : p.tables.opened ≤ length (dials_from c log.dialled)) (fits : Fits limits (dials_from c log.dialled) p call) where
   abbrev ds : List (Option ℕ)
   ds = dials_from c log.dialled
@@ -85,14 +85,14 @@ module _ (limits : Limits) (c : Contents) (may : may_begin limits c ≡ true) (l
 module _ {B : Type 0} {g : Ghosts B} (n : ℕ) (f : Frame) (x : loop.Proxy B g) (p : Proxy) (log : Log) (reported : Option Log) (stages : ℕ → Stage)
     (s : IsStill n f x p log reported stages) where
   -- the store may have begun so
-  may_so : may_begin f.limits f.contents ≡ true
-  may_so = subst (λ (d : Contents). may_begin f.limits d ≡ true) s.rests.cache.contents (begins_of f x p s.rests.cache)
+  may_so : may_begin f.limits f.setting.contents ≡ true
+  may_so = subst (λ (d : Setting). may_begin f.limits d ≡ true) s.rests.cache.setting (begins_of f x p s.rests.cache)
 
   -- each exchange has its place among the dials
-  dials_so_far : dials_in p log ≡ dials_from f.contents log.dialled
-  dials_so_far = ap (λ (d : Contents). dials_from d log.dialled) s.rests.cache.contents
+  dials_so_far : dials_in p log ≡ dials_from f.setting log.dialled
+  dials_so_far = ap (λ (d : Setting). dials_from d log.dialled) s.rests.cache.setting
 
-  places_so : length (dials_from f.contents log.dialled) ≡ p.tables.opened
+  places_so : length (dials_from f.setting log.dialled) ≡ p.tables.opened
   places_so = ap length (sym dials_so_far) ∙ s.rests.opened
 
   -- what is written is the record of the turns before
@@ -109,14 +109,14 @@ module _ {B : Type 0} {g : Ghosts B} (n : ℕ) (f : Frame) (x : loop.Proxy B g) 
     goes = λ none l. record {
       is_log = record {
         fit = l.fit;
-        sent = subst (λ (r : Proxy). list_all (was_sent (dials_from f.contents log.dialled) r) log.takers ≡ true) l.tables l.sent;
-        dialled = let same = places_so in subst (λ (r : Proxy). length (dials_from f.contents log.dialled) ≤ r.tables.opened) l.tables (omega arith);
+        sent = subst (λ (r : Proxy). list_all (was_sent (dials_from f.setting log.dialled) r) log.takers ≡ true) l.tables l.sent;
+        dialled = let same = places_so in subst (λ (r : Proxy). length (dials_from f.setting log.dialled) ≤ r.tables.opened) l.tables (omega arith);
       };
       turns = length log.calls;
       all_but_one = omega arith;
       written_is = written_so ∙
           ap record_of (l.tables ∙
-          sym (ap (λ cs. turned_by f.limits (dials_from f.contents log.dialled) cs (unused f.contents)) (take_all (length log.calls) log.calls (omega arith))));
+          sym (ap (λ cs. turned_by f.limits (dials_from f.setting log.dialled) cs (unused f.setting)) (take_all (length log.calls) log.calls (omega arith))));
       text = [];
       takes = record { front = []; rest = []; whole = refl; takes = takes_none out };
       record_is = ap record_of (sym l.tables) ∙ (s.rests.cache.text ∙ ap (λ (z : List ℕ). f.written ++ z) s.written);
@@ -153,12 +153,12 @@ module _ {B : Type 0} {g : Ghosts B} (n : ℕ) (f : Frame) (x : loop.Proxy B g) 
   owed_by = happened f.limits (dials_in p log) call (begun call p)
 
   abbrev now : List (Option ℕ)
-  now = dials_from f.contents log.dialled
+  now = dials_from f.setting log.dialled
 
   now_is : dials_in p log ≡ now
   now_is = dials_so_far n f x p log reported stages s
 
-  may : may_begin f.limits f.contents ≡ true
+  may : may_begin f.limits f.setting.contents ≡ true
   may = may_so n f x p log reported stages s
 
   dials_so : so_far p (dials_in p log) ≡ dials_in p log
@@ -205,12 +205,12 @@ module _ {B : Type 0} {g : Ghosts B} (n : ℕ) (f : Frame) (x : loop.Proxy B g) 
   written_now : f.written ≡ record_of p
   written_now = written_so n f x p log reported stages s
 
-  module _ (l : IsOfLoop f.limits f.contents log p) where
+  module _ (l : IsOfLoop f.limits f.setting log p) where
     known : StandsKnown f.limits p
-    known = subst (StandsKnown f.limits) (sym l.tables) (turns_know f.limits now log.calls (unused f.contents) (unused_known f.limits f.contents may))
+    known = subst (StandsKnown f.limits) (sym l.tables) (turns_know f.limits now log.calls (unused f.setting) (unused_known f.limits f.setting may))
 
     gone : AreGone p
-    gone = subst AreGone (sym l.tables) (turns_gone f.limits now log.calls (unused f.contents) (unused_gone f.contents))
+    gone = subst AreGone (sym l.tables) (turns_gone f.limits now log.calls (unused f.setting) (unused_gone f.setting))
 
     sent_turned : list_all (was_sent now (turned f.limits now call p)) log'.takers ≡ true
     sent_turned =
@@ -222,17 +222,17 @@ module _ {B : Type 0} {g : Ghosts B} (n : ℕ) (f : Frame) (x : loop.Proxy B g) 
         (λ j none. (s.rests.seen j (ap stage_from none)).0))
 
     -- where it was cut short behind the call, and nothing was written
-    pub cut_early : (out : Option (List ℕ)) → IsCutShort f.limits f.contents log' f.written out out
+    pub cut_early : (out : Option (List ℕ)) → IsCutShort f.limits f.setting log' f.written out out
     cut_early out =
         let q = turned f.limits now call p in
-        let is : behind_all f.limits f.contents log' ≡ q =
-        tables_on f.limits f.contents may log p call l enough call_fits [] log' refl (sym (append-nil log.dialled)) in
+        let is : behind_all f.limits f.setting log' ≡ q =
+        tables_on f.limits f.setting may log p call l enough call_fits [] log' refl (sym (append-nil log.dialled)) in
         let part = turn_part f.limits now call p in
         let turn_on = turn_goes f.limits now call p known.stands in
-        let more = grown p.contents.now q.part p.history in
+        let more = grown p.setting.contents.now q.part p.history in
         record {
           is_log = record {
-            fit = fit_on f.limits f.contents may log p call l enough call_fits [] log' refl (sym (append-nil log.dialled));
+            fit = fit_on f.limits f.setting may log p call l enough call_fits [] log' refl (sym (append-nil log.dialled));
             sent = subst (λ (r : Proxy). list_all (was_sent now r) log'.takers ≡ true) (sym is) sent_turned;
             dialled =
                 let grows : p.tables.opened ≤ q.tables.opened = turn_on.opened in
@@ -242,13 +242,13 @@ module _ {B : Type 0} {g : Ghosts B} (n : ℕ) (f : Frame) (x : loop.Proxy B g) 
           turns = length log.calls;
           all_but_one = let is = length-append log.calls (call ∷ []) in omega arith;
           written_is = written_now ∙
-              ap record_of (sym (before_on f.limits f.contents may log p call l enough call_fits [] log' refl (sym (append-nil log.dialled))));
+              ap record_of (sym (before_on f.limits f.setting may log p call l enough call_fits [] log' refl (sym (append-nil log.dialled))));
           text = more.0;
           takes = record { front = []; rest = more.0; whole = refl; takes = takes_none out };
           record_is =
               ap record_of is
-              ∙ (ap (λ (d : Contents). text_behind d.now (map timed_of (reverse q.history))) turn_on.contents
-              ∙ (ap (λ (h : History). text_behind p.contents.now (map timed_of (reverse h))) part.first
+              ∙ (ap (λ (d : Setting). text_behind d.now (map timed_of (reverse q.history))) turn_on.setting
+              ∙ (ap (λ (h : History). text_behind p.setting.contents.now (map timed_of (reverse h))) part.first
               ∙ (more.1 ∙ ap (λ (z : List ℕ). z ++ more.0) (s.rests.cache.text ∙ (ap (λ (z : List ℕ). f.written ++ z) s.written ∙ append-nil f.written)))));
         }
 
@@ -269,15 +269,15 @@ module _ {B : Type 0} {g : Ghosts B} (n : ℕ) (f : Frame) (x : loop.Proxy B g) 
     same_tables none = ap carried (goes.same none) ∙ sym turned_is
 
     -- it began with the same
-    contents_same : (carried goes.q).contents ≡ f.contents
-    contents_same = (carried_is_same goes.q).contents ∙ goes.keeps.keeps.cache.contents
+    contents_same : (carried goes.q).setting ≡ f.setting
+    contents_same = (carried_is_same goes.q).setting ∙ goes.keeps.keeps.cache.setting
 
     sent_as : (l' : Log) → list_all (was_sent (dials_in (carried goes.q) l') (carried goes.q)) l'.takers
-        ≡ list_all (was_sent (dials_from f.contents l'.dialled) (carried goes.q)) l'.takers
-    sent_as l' = ap (λ (d : Contents). list_all (was_sent (dials_from d l'.dialled) (carried goes.q)) l'.takers) contents_same
+        ≡ list_all (was_sent (dials_from f.setting l'.dialled) (carried goes.q)) l'.takers
+    sent_as l' = ap (λ (d : Setting). list_all (was_sent (dials_from d l'.dialled) (carried goes.q)) l'.takers) contents_same
 
-    sent_later : (l' : Log) → SentOn (carried goes.q) log' l' → faults_in y.cache ≡ faults_in x.cache → IsOfLoop f.limits f.contents log p →
-        list_all (was_sent (dials_from f.contents l'.dialled) (carried goes.q)) l'.takers ≡ true
+    sent_later : (l' : Log) → SentOn (carried goes.q) log' l' → faults_in y.cache ≡ faults_in x.cache → IsOfLoop f.limits f.setting log p →
+        list_all (was_sent (dials_from f.setting l'.dialled) (carried goes.q)) l'.takers ≡ true
     sent_later l' on none l =
         sym (sent_as l') ∙ on (sent_as log' ∙ subst (λ (r : Proxy). list_all (was_sent now r) log'.takers ≡ true) (sym (same_tables none)) (sent_turned l))
 
@@ -295,24 +295,24 @@ module _ {B : Type 0} {g : Ghosts B} (n : ℕ) (f : Frame) (x : loop.Proxy B g) 
       goes = λ none l. by_loop (ap faults_in (sym cache) ∙ none) l;
     }
       where
-        by_loop : faults_in y.cache ≡ faults_in x.cache → IsOfLoop f.limits f.contents log p → IsCutShort f.limits f.contents c.log' f.written out out'
+        by_loop : faults_in y.cache ≡ faults_in x.cache → IsOfLoop f.limits f.setting log p → IsCutShort f.limits f.setting c.log' f.written out out'
         by_loop none l =
-            let is : behind_all f.limits f.contents c.log' ≡ carried goes.q =
-            tables_on f.limits f.contents may log p call l enough call_fits c.more c.log' c.calls c.dialled ∙ sym (same_tables none) in
+            let is : behind_all f.limits f.setting c.log' ≡ carried goes.q =
+            tables_on f.limits f.setting may log p call l enough call_fits c.more c.log' c.calls c.dialled ∙ sym (same_tables none) in
             let same = carried_is_same goes.q in
-            let few : length (dials_from f.contents c.log'.dialled) ≤ goes.q.tables.opened =
-            subst (λ (d : Contents). length (dials_from d c.log'.dialled) ≤ goes.q.tables.opened) goes.keeps.keeps.cache.contents c.few in
+            let few : length (dials_from f.setting c.log'.dialled) ≤ goes.q.tables.opened =
+            subst (λ (d : Setting). length (dials_from d c.log'.dialled) ≤ goes.q.tables.opened) goes.keeps.keeps.cache.setting c.few in
             record {
               is_log = record {
-                fit = fit_on f.limits f.contents may log p call l enough call_fits c.more c.log' c.calls c.dialled;
-                sent = subst (λ (r : Proxy). list_all (was_sent (dials_from f.contents c.log'.dialled) r) c.log'.takers ≡ true) (sym is)
+                fit = fit_on f.limits f.setting may log p call l enough call_fits c.more c.log' c.calls c.dialled;
+                sent = subst (λ (r : Proxy). list_all (was_sent (dials_from f.setting c.log'.dialled) r) c.log'.takers ≡ true) (sym is)
                     (sent_later c.log' c.sent none l);
-                dialled = subst (λ (r : Proxy). length (dials_from f.contents c.log'.dialled) ≤ r.tables.opened) (sym is)
-                    (subst (λ (u : Tables). length (dials_from f.contents c.log'.dialled) ≤ u.opened) (sym same.tables) few);
+                dialled = subst (λ (r : Proxy). length (dials_from f.setting c.log'.dialled) ≤ r.tables.opened) (sym is)
+                    (subst (λ (u : Tables). length (dials_from f.setting c.log'.dialled) ≤ u.opened) (sym same.tables) few);
               };
               turns = length log.calls;
               all_but_one = let is = calls_on c.log' c.calls in omega arith;
-              written_is = written_now ∙ ap record_of (sym (before_on f.limits f.contents may log p call l enough call_fits c.more c.log' c.calls c.dialled));
+              written_is = written_now ∙ ap record_of (sym (before_on f.limits f.setting may log p call l enough call_fits c.more c.log' c.calls c.dialled));
               text = text_of y.record;
               takes = c.takes;
               record_is = ap record_of is ∙ (record_carried goes.q ∙ goes.keeps.keeps.cache.text);
@@ -336,7 +336,7 @@ module _ {B : Type 0} {g : Ghosts B} (n : ℕ) (f : Frame) (x : loop.Proxy B g) 
         written = e.written;
       };
       limits = refl;
-      contents = refl;
+      setting = refl;
       text = text_of y.record;
       takes = e.takes;
       written = refl;
@@ -346,10 +346,10 @@ module _ {B : Type 0} {g : Ghosts B} (n : ℕ) (f : Frame) (x : loop.Proxy B g) 
       goes = λ none l. by_loop (ap faults_in (sym cache) ∙ none) l;
     }
       where
-        by_loop : faults_in y.cache ≡ faults_in x.cache → IsOfLoop f.limits f.contents log p → IsOfLoop f.limits f.contents e.log' (carried goes.q)
+        by_loop : faults_in y.cache ≡ faults_in x.cache → IsOfLoop f.limits f.setting log p → IsOfLoop f.limits f.setting e.log' (carried goes.q)
         by_loop none l = record {
-          fit = fit_on f.limits f.contents may log p call l enough call_fits e.more e.log' e.calls e.dialled;
-          tables = sym (tables_on f.limits f.contents may log p call l enough call_fits e.more e.log' e.calls e.dialled ∙ sym (same_tables none));
+          fit = fit_on f.limits f.setting may log p call l enough call_fits e.more e.log' e.calls e.dialled;
+          tables = sym (tables_on f.limits f.setting may log p call l enough call_fits e.more e.log' e.calls e.dialled ∙ sym (same_tables none));
           sent = sent_later e.log' e.sent none l;
         }
 

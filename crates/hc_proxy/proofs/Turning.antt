@@ -10,6 +10,8 @@ use Rattle.hc_head.specs.declared.message.{MsgError.{MsgError}, WireRequest.{Wir
 use Rattle.hc_msg.specs.{Inputs.{Next, Waits, Reports, Brings, Ends, Fails, next_in}, Reading.{Reading, Done, Failed, Token, Asks, Answers, Byte}, Taking.{ending}}
 use Rattle.hc_wire.specs.{Logs.{Called}, declared.event.WireEvent.{WireEvent}}
 use Rattle.hc_wire.specs.declared.event.WireEvent.TheVariants as wire
+use Rattle.hc_peers.specs.Renderings.{asked_of, reply_to}
+use Rattle.hc_peers.specs.declared.reply.Reply.{Reply}
 use Rattle.hc_proxy.specs.{Carrying.{answered, answers, opened, all_carried_out, carried, acts_in}, Connections.{exchange_of}, Handling.{begun, inserted, clients_here, left, cancelled, leaves, client_sends, origin_sends, origin_ends, breaks, sends, ends, broke, handled_by, handled}, Network.{open_exchanges, is_last_denied, unless_denied, next_of, hands_head, hands, hands_if, event_at_close, closes, closes_if, handed, closed, heard}, Polls.{live_consumers, may_be_polled, polled, each_polled, polled_all}, Rows.{Client, Upstream, Proxy, new_client, with, with_client, with_upstream}, Starts.{asks, with_holder, started, refused, hears_request, hears, is_ready, hears_if, started_all}, Steps.{stepped}, Turns.{so_far, happened, turned}}
 use Rattle.hc_proxy.specs.Network as network
 use Rattle.hc_proxy.specs.Starts as starts
@@ -20,7 +22,7 @@ use Rattle.hc_proxy.specs.Starts as starts
 pub data IsChange : (Client → Client) → Type 0 where
   sends_more : (bytes : List ℕ) → IsChange (client_sends bytes)
   is_read : (reading : Reading) (rest : List ℕ) → IsChange (starts.read_to reading rest)
-  asks_next : (c : ℕ) (request : WireRequest) → IsChange (asks c request)
+  asks_next : (c : ℕ) (reply : Reply) → IsChange (asks c reply)
   is_refused : (e : MsgError) → IsChange (refused e)
   goes : IsChange left
 
@@ -168,9 +170,9 @@ module _ (limits : Limits) (R : Proxy → Proxy → Type 0) (kept : IsKept limit
 
   starts_by : (k : ℕ) (request : WireRequest) (p : Proxy) → R p (started limits k request p)
   starts_by k request p =
-      then_steps (event.Start (p.starts + 1) request.request) p _
-      (kept.both p _ _ (kept.client k (asks (p.starts + 1) request) p (asks_next (p.starts + 1) request))
-      (kept.holder (p.starts + 1) k (with_client k (asks (p.starts + 1) request) p)))
+      then_steps (event.Start (p.starts + 1) (asked_of p.setting.front request)) p _
+      (kept.both p _ _ (kept.client k (asks (p.starts + 1) (reply_to p.setting.front request)) p (asks_next (p.starts + 1) (reply_to p.setting.front request)))
+      (kept.holder (p.starts + 1) k (with_client k (asks (p.starts + 1) (reply_to p.setting.front request)) p)))
 
   hears_by_token : (k : ℕ) (token : Token) (p : Proxy) → R p (hears_request limits k token p)
   hears_by_token k (Asks request) p = starts_by k request p

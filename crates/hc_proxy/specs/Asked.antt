@@ -5,13 +5,14 @@ use Rattle.hc_event.specs.declared.event.Event.TheVariants as event
 use Rattle.hc_event.specs.declared.event.Request.{Request}
 use Rattle.hc_head.specs.declared.message.WireRequest.{WireRequest}
 use Rattle.hc_model.specs.Beginnings.{may_begin}
-use Rattle.hc_model.specs.Entries.{Contents, History}
+use Rattle.hc_model.specs.Entries.{History}
 use Rattle.hc_msg.specs.Reading.{Reading, Requests, Asks, Leads, heading}
 use Rattle.hc_rules.specs.declared.room.Limits.{Limits}
+use Rattle.hc_peers.specs.Renderings.{asked_of}
 use Rattle.hc_wire.specs.declared.event.WireEvent.{WireEvent}
 use Rattle.hc_wire.specs.declared.event.WireEvent.TheVariants as wire
 use Rattle.hc_wire.specs.Logs.{Called, Log}
-use Rattle.hc_proxy.specs.Rows.{Proxy}
+use Rattle.hc_proxy.specs.Rows.{Proxy, Setting}
 use Rattle.hc_proxy.specs.Turns.{behind_all}
 
 -- WHAT CAME
@@ -25,15 +26,15 @@ abbrev pub got_from : ℕ → List Called → List ℕ
 got_from k [] = []
 got_from k (call ∷ calls) = got_by k call.event call.bytes ++ got_from k calls
 
--- Some first bytes ask for these, one after another.
-pub record HasAsked (came : List ℕ) (requests : List Request) : Type 0 where
-  pub front : List ℕ
+-- Some first bytes ask for these, one after another. A front asks without the condition of a copy.
+pub record HasAsked (front : Bool) (came : List ℕ) (requests : List Request) : Type 0 where
+  pub first : List ℕ
   pub rest : List ℕ
   pub asked : List WireRequest
   pub reading : Reading
-  pub whole : front ++ rest ≡ came
-  pub reads : Leads (heading Requests) front (map Asks asked) reading
-  pub are : requests ≡ map (λ (r : WireRequest). r.request) asked
+  pub whole : first ++ rest ≡ came
+  pub reads : Leads (heading Requests) first (map Asks asked) reading
+  pub are : requests ≡ map (asked_of front) asked
 
 -- THE STARTS
 
@@ -75,20 +76,20 @@ AreClients last holder (e ∷ h) =
 -- BOTH
 
 -- Nothing was started for this connection. Or it was accepted at a call, and what came since asked for that.
-pub data IsAsked (k : ℕ) (calls : List Called) (requests : List Request) : Type 0 where
-  nothing : requests ≡ [] → IsAsked k calls requests
+pub data IsAsked (front : Bool) (k : ℕ) (calls : List Called) (requests : List Request) : Type 0 where
+  nothing : requests ≡ [] → IsAsked front k calls requests
   since : (before after : List Called) (call : Called) → calls ≡ before ++ call ∷ after →
-      call.event ≡ wire.Accepted k → HasAsked (got_from k after) requests → IsAsked k calls requests
+      call.event ≡ wire.Accepted k → HasAsked front (got_from k after) requests → IsAsked front k calls requests
 
-pub record AreAsked (contents : Contents) (calls : List Called) (p : Proxy) : Type 0 where
+pub record AreAsked (setting : Setting) (calls : List Called) (p : Proxy) : Type 0 where
   -- The n-th consumer that is started has the n-th number behind the last one of the contents,
   -- and is a client's.
-  pub clients : AreClients contents.last_consumer p.holder p.history
+  pub clients : AreClients setting.contents.last_consumer p.holder p.history
   -- Those of a client were started for its first requests, each once and in their order.
-  pub each : (k : ℕ) → IsAsked k calls (starts_of p.holder k p.history)
+  pub each : (k : ℕ) → IsAsked setting.front k calls (starts_of p.holder k p.history)
 
 -- So it is whatever a log says.
 abbrev pub StartsAreAsked : Type 0
 StartsAreAsked =
-    (limits : Limits) (contents : Contents) (log : Log) → may_begin limits contents ≡ true →
-    AreAsked contents log.calls (behind_all limits contents log)
+    (limits : Limits) (setting : Setting) (log : Log) → may_begin limits setting.contents ≡ true →
+    AreAsked setting log.calls (behind_all limits setting log)

@@ -1,20 +1,19 @@
 -- Whose a connection is, and how it stood at a call.
 use Rattle.std.specs.Prelude.{ℕ, ◌+◌, ◌-◌, ◌==◌, nat_lt, List, [], ◌∷◌, ◌++◌, length, drop, find, map, replicate, Bool, false, Option, Some, None, if◌then◌else◌}
 use Rattle.std.specs.List.{list_any}
-use Rattle.hc_model.specs.Entries.{Contents}
 use Rattle.hc_wire.specs.declared.connection.Standing.{Standing}
 use Rattle.hc_wire.specs.Logs.{Called, Log}
-use Rattle.hc_proxy.specs.Rows.{Client, Proxy}
+use Rattle.hc_proxy.specs.Rows.{Client, Proxy, Setting}
 
 -- THE DIALS, by exchange
 
 -- Each dial is for the next exchange. Those that were opened before have no connection.
-abbrev pub dials_from : Contents → List ℕ → List (Option ℕ)
-dials_from contents dialled = replicate (contents.next_exchange - 1) None ++ map Some dialled
+abbrev pub dials_from : Setting → List ℕ → List (Option ℕ)
+dials_from setting dialled = replicate (setting.contents.next_exchange - 1) None ++ map Some dialled
 
 -- by what the store of these tables began with
 abbrev pub dials_in : Proxy → Log → List (Option ℕ)
-dials_in p log = dials_from p.contents log.dialled
+dials_in p log = dials_from p.setting log.dialled
 
 -- WHOSE
 

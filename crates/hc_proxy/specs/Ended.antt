@@ -3,7 +3,7 @@ use Rattle.std.specs.Prelude.{◌≡◌, ◌⊎◌, ℕ, ◌==◌, List, ◌∷�
 use Rattle.std.specs.List.{list_any}
 use Rattle.hc_event.specs.declared.event.Event.TheVariants as event
 use Rattle.hc_model.specs.Beginnings.{may_begin}
-use Rattle.hc_model.specs.Entries.{Contents, Entry, History}
+use Rattle.hc_model.specs.Entries.{Entry, History}
 use Rattle.hc_msg.specs.declared.message.WirePart.TheVariants as part
 use Rattle.hc_msg.specs.Reading.{Reading, Whole, Token}
 use Rattle.hc_msg.specs.Taking.{ending}
@@ -14,6 +14,7 @@ use Rattle.hc_wire.specs.Logs.{Called, Log}
 use Rattle.hc_proxy.specs.Asked.{got_from}
 use Rattle.hc_proxy.specs.Received.{received_of, IsSent}
 use Rattle.hc_proxy.specs.Turns.{behind_all}
+use Rattle.hc_proxy.specs.Rows.{Setting}
 
 abbrev pub is_end_of : ℕ → WireEvent → Bool
 is_end_of k (wire.Ended j) = k == j
@@ -34,14 +35,14 @@ pub record IsClosed (k : ℕ) (calls : List Called) (front : List ℕ) (reading 
   pub ends : ending reading ≡ Ok part.End
 
 -- What was told is that of a whole answer.
-pub record IsWhole (limits : Limits) (contents : Contents) (log : Log) (x : ℕ) (tokens : List Token) : Type 0 where
-  pub reported : IsSent limits contents log x tokens
+pub record IsWhole (limits : Limits) (setting : Setting) (log : Log) (x : ℕ) (tokens : List Token) : Type 0 where
+  pub reported : IsSent limits setting log x tokens
   pub whole : (reported.sent.reading ≡ Whole)
       ⊎ IsClosed reported.k reported.at.after reported.sent.front reported.sent.reading
 
 -- So it is of what was told of an exchange before an end, whatever a log says.
 abbrev pub EndsAreReceived : Type 0
 EndsAreReceived =
-    (limits : Limits) (contents : Contents) (log : Log) (x : ℕ) (later earlier : History) (e : Entry) →
-    may_begin limits contents ≡ true → (behind_all limits contents log).history ≡ later ++ e ∷ earlier → e.event ≡ event.End x →
-    IsWhole limits contents log x (received_of x earlier)
+    (limits : Limits) (setting : Setting) (log : Log) (x : ℕ) (later earlier : History) (e : Entry) →
+    may_begin limits setting.contents ≡ true → (behind_all limits setting log).history ≡ later ++ e ∷ earlier → e.event ≡ event.End x →
+    IsWhole limits setting log x (received_of x earlier)

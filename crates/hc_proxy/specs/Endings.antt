@@ -2,14 +2,13 @@
 use Rattle.std.specs.Prelude.{◌≡◌, ◌≤◌, ◌+◌, ◌++◌, ◌&&◌, ◌||◌, ◌==◌, nat_le, not, ℕ, List, [], length, take, bytes_eq, Bool, true, Option, Some, None}
 use Rattle.std.specs.List.{list_all}
 use Rattle.hc_io.specs.Sink.{Takes, TakesPrefix}
-use Rattle.hc_model.specs.Entries.{Contents}
 use Rattle.hc_rules.specs.declared.room.Limits.{Limits}
 use Rattle.hc_sched.specs.declared.schedule.Ended.{Ended}
 use Rattle.hc_sched.specs.declared.schedule.Ended.TheVariants as ended
 use Rattle.hc_wire.specs.Logs.{Log, Taker}
 use Rattle.hc_proxy.specs.Connections.{exchange_of, dials_from, dials_in}
 use Rattle.hc_proxy.specs.Loops.{AllFit}
-use Rattle.hc_proxy.specs.Rows.{Client, Upstream, Proxy, unused}
+use Rattle.hc_proxy.specs.Rows.{Client, Upstream, Proxy, Setting, unused}
 use Rattle.hc_proxy.specs.Sending.{all_is_sent}
 use Rattle.hc_proxy.specs.Turns.{behind_all, behind_calls, record_of}
 
@@ -48,12 +47,12 @@ SentOn p log log' =
 
 -- Each call fits those before it, and each connection has taken a first part of what it is owed. At most as
 -- many were dialled as exchanges were opened. The last turn may have been cut short.
-pub record IsLog (limits : Limits) (contents : Contents) (log : Log) : Type 0 where
-  pub fit : AllFit limits (dials_from contents log.dialled) (unused contents) log.calls
-  pub sent : list_all (was_sent (dials_from contents log.dialled) (behind_all limits contents log))
+pub record IsLog (limits : Limits) (setting : Setting) (log : Log) : Type 0 where
+  pub fit : AllFit limits (dials_from setting log.dialled) (unused setting) log.calls
+  pub sent : list_all (was_sent (dials_from setting log.dialled) (behind_all limits setting log))
       log.takers ≡ true
-  pub dialled : length (dials_from contents log.dialled)
-      ≤ (behind_all limits contents log).tables.opened
+  pub dialled : length (dials_from setting log.dialled)
+      ≤ (behind_all limits setting log).tables.opened
 
 -- Behind the last turn nothing is lacking but where less was taken than was offered, and all connections are closed.
 pub record IsFinished (log : Log) (p : Proxy) : Type 0 where
@@ -64,29 +63,29 @@ pub record IsFinished (log : Log) (p : Proxy) : Type 0 where
 -- HOW IT ENDS
 
 -- The record of all turns but the last was taken whole, and then some first part of the record of the last.
-pub record TakesTurns (limits : Limits) (contents : Contents) (log : Log) (out out' : Option (List ℕ)) : Type 0 where
+pub record TakesTurns (limits : Limits) (setting : Setting) (log : Log) (out out' : Option (List ℕ)) : Type 0 where
   pub turns : ℕ
   pub all_but_one : length log.calls ≤ turns + 1
   pub between : Option (List ℕ)
-  pub earlier : Takes out between (record_of (behind_calls limits contents log turns))
+  pub earlier : Takes out between (record_of (behind_calls limits setting log turns))
   pub last : List ℕ
   pub part : TakesPrefix between out' last
-  pub record_is : record_of (behind_all limits contents log)
-      ≡ record_of (behind_calls limits contents log turns) ++ last
+  pub record_is : record_of (behind_all limits setting log)
+      ≡ record_of (behind_calls limits setting log turns) ++ last
 
-pub data Serves (limits : Limits) (contents : Contents) (turns : ℕ) (log : Log) (out out' : Option (List ℕ))
+pub data Serves (limits : Limits) (setting : Setting) (turns : ℕ) (log : Log) (out out' : Option (List ℕ))
     : Ended → Type 0 where
   -- so many turns were made, and their record was taken
-  done : IsLog limits contents log → length log.calls ≡ turns → IsFinished log (behind_all limits contents log) →
-      Takes out out' (record_of (behind_all limits contents log)) →
-      Serves limits contents turns log out out' ended.Done
+  done : IsLog limits setting log → length log.calls ≡ turns → IsFinished log (behind_all limits setting log) →
+      Takes out out' (record_of (behind_all limits setting log)) →
+      Serves limits setting turns log out out' ended.Done
   -- no more than so many were, and the last may be cut short: of its record alone something may be lacking
-  unwired : IsLog limits contents log → length log.calls ≤ turns → TakesTurns limits contents log out out' →
-      Serves limits contents turns log out out' ended.WireFailed
-  unwritten : IsLog limits contents log → length log.calls ≤ turns → TakesTurns limits contents log out out' →
-      Serves limits contents turns log out out' ended.SinkFailed
-  wanting : IsLog limits contents log → length log.calls ≤ turns → TakesTurns limits contents log out out' →
-      Serves limits contents turns log out out' ended.NoMemory
+  unwired : IsLog limits setting log → length log.calls ≤ turns → TakesTurns limits setting log out out' →
+      Serves limits setting turns log out out' ended.WireFailed
+  unwritten : IsLog limits setting log → length log.calls ≤ turns → TakesTurns limits setting log out out' →
+      Serves limits setting turns log out out' ended.SinkFailed
+  wanting : IsLog limits setting log → length log.calls ≤ turns → TakesTurns limits setting log out out' →
+      Serves limits setting turns log out out' ended.NoMemory
 
 -- no input is read, so it neither fails nor is refused
 abbrev pub MayEnd : Ended → Type 0

@@ -136,6 +136,7 @@ module _ {B : Type 0} {g : Ghosts B} where
     pub acts : x'.acts ≡ x.acts
     pub now : x'.now ≡ x.now
     pub starts : x'.starts ≡ x.starts
+    pub front : x'.front ≡ x.front
     pub moved : x'.moved ≡ x.moved
     pub clients : x'.clients ≡ x.clients
     pub upstreams : x'.upstreams ≡ x.upstreams

@@ -35,17 +35,17 @@ use Rattle.hc_proxy.specs.Handling.{clients_here}
 use Rattle.hc_proxy.specs.Headed.{AreHeaded}
 use Rattle.hc_proxy.specs.Invariants.{is_quiet, HasConsumers, is_due, NamesOne, OpensUp, AreServed, AreOver, AreShut, ArePlain, AreClosed, IsHeardOut, IsOfRequests, unread, last_event}
 use Rattle.hc_proxy.specs.Records.{text_of, last_of}
-use Rattle.hc_proxy.specs.Rows.{Client, Upstream, Proxy}
+use Rattle.hc_proxy.specs.Rows.{Client, Upstream, Proxy, Setting}
 use Rattle.hc_proxy.specs.Steps.{with_entry}
 use Rattle.hc_proxy.specs.Turns.{record_of}
 use Rattle.hc_proxy.specs.Waiting.{pends, is_waiting}
 
--- What stays as it is within a turn: the limits of the store, what that began with, the record that was written, and how
+-- What stays as it is within a turn: the limits of the store, what the loop began with, the record that was written, and how
 -- many bytes came at most;
 -- the call that began it, the connections that were dialled before, and how each connection stands behind the call.
 pub record Frame : Type 0 where
   pub limits : Limits
-  pub contents : Contents
+  pub setting : Setting
   pub written : List ℕ
   pub bytes : ℕ
 
@@ -75,23 +75,24 @@ IsNumbered starts _ = Unit {0}
 
 module _ {B : Type 0} {g : Ghosts B} where
   pub record HasCache (f : Frame) (x : loop.Proxy B g) (p : Proxy) : Type 0 where
-    pub contents : p.contents ≡ f.contents
-    pub stands : StandsFor x.cache p.contents p.history
-    pub same : p.tables ≡ tables p.contents p.history
+    pub setting : p.setting ≡ f.setting
+    pub stands : StandsFor x.cache p.setting.contents p.history
+    pub same : p.tables ≡ tables p.setting.contents p.history
     pub limits : limits_in x.cache ≡ f.limits
+    pub front : x.front ≡ p.setting.front
     pub now : x.now ≡ p.moment
     pub early : p.moment < 2 ^ 62
     pub last : last_moment x.cache ≤ p.moment
     pub starts : x.starts ≡ p.starts
     pub last_start : p.tables.last_start ≤ p.starts
     pub text : record_of p ≡ f.written ++ text_of x.record
-    pub recorded : last_of x.record ≡ last_event p.contents.now p.history
-    pub before : last_event p.contents.now p.history ≤ p.moment
+    pub recorded : last_of x.record ≡ last_event p.setting.contents.now p.history
+    pub before : last_event p.setting.contents.now p.history ≤ p.moment
     pub unopened : (y : ℕ) → p.tables.opened < y → p.upstream y ≡ None
     pub headed : AreHeaded p
     pub small : unread p + bytes_received x.cache ≤ f.bytes
     pub bounded : f.bytes ≤ 2 ^ 60
-    pub room : p.contents.last_consumer < 2 ^ 61
+    pub room : p.setting.contents.last_consumer < 2 ^ 61
     pub targets : StartsHaveTargets p.history
 
   -- the acts are those of the turn
@@ -100,10 +101,10 @@ module _ {B : Type 0} {g : Ghosts B} where
 
   -- how many consumers and exchanges there are at most: a step brings one more of each
   abbrev pub most_starts : loop.Proxy B g → Proxy → ℕ
-  most_starts x p = p.contents.last_consumer + steps x.cache
+  most_starts x p = p.setting.contents.last_consumer + steps x.cache
 
   abbrev pub most_opened : loop.Proxy B g → Proxy → ℕ
-  most_opened x p = p.contents.next_exchange + steps x.cache
+  most_opened x p = p.setting.contents.next_exchange + steps x.cache
 
   -- something happened beside polls whose consumers wait
   abbrev pub HasMoved : loop.Proxy B g → Proxy → Type 0
@@ -120,8 +121,8 @@ IsStockedSome cache last = (contents : Contents) × IsStocked contents cache las
 
 -- nothing happened yet, and nothing is counted
 pub record IsUnused {B : Type 0} {g : Ghosts B} (f : Frame) (cache : Cache B g) : Type 0 where
-  pub stands : StandsFor cache f.contents []
-  pub room : f.contents.last_consumer < 2 ^ 61
+  pub stands : StandsFor cache f.setting.contents []
+  pub room : f.setting.contents.last_consumer < 2 ^ 61
   pub limits : limits_in cache ≡ f.limits
   pub received : bytes_received cache ≡ 0
   pub written : f.written ≡ []
@@ -341,6 +342,7 @@ module _ {B : Type 0} {g : Ghosts B} where
     pub acts : x'.acts ≡ x.acts
     pub now : x'.now ≡ x.now
     pub starts : x'.starts ≡ x.starts
+    pub front : x'.front ≡ x.front
     pub moved : x'.moved ≡ x.moved
     pub clients : x'.clients ≡ x.clients
     pub round : x'.round ≡ x.round
@@ -375,6 +377,7 @@ module _ {B : Type 0} {g : Ghosts B} where
   pub record RestStays (x x' : loop.Proxy B g) : Type 0 where
     pub now : x'.now ≡ x.now
     pub starts : x'.starts ≡ x.starts
+    pub front : x'.front ≡ x.front
     pub clients : x'.clients ≡ x.clients
     pub upstreams : x'.upstreams ≡ x.upstreams
     pub closed : x'.closed ≡ x.closed

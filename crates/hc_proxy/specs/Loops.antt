@@ -2,10 +2,9 @@
 use Rattle.std.specs.Prelude.{◌≡◌, ◌≤◌, length, ℕ, List, [], ◌∷◌, true, Option}
 use Rattle.hc_wire.specs.Logs.{Called, Log}
 use Rattle.hc_rules.specs.declared.room.Limits.{Limits}
-use Rattle.hc_model.specs.Entries.{Contents}
 use Rattle.hc_proxy.specs.Connections.{dials_from}
 use Rattle.hc_proxy.specs.Listening.{reads_right}
-use Rattle.hc_proxy.specs.Rows.{Proxy, unused}
+use Rattle.hc_proxy.specs.Rows.{Proxy, Setting, unused}
 use Rattle.hc_proxy.specs.Sending.{sends_right}
 use Rattle.hc_proxy.specs.Standings.{stand_right}
 use Rattle.hc_proxy.specs.Turns.{so_far, turned, behind_all, record_of}
@@ -26,6 +25,6 @@ AllFit limits dialled p (call ∷ calls) =
     Fits limits dialled p call × AllFit limits dialled (turned limits dialled call p) calls
 
 -- The log is one of the loop over a store that began with these contents, and this is its record.
-pub record Loop (limits : Limits) (contents : Contents) (log : Log) (record_text : List ℕ) : Type 0 where
-  pub fit : AllFit limits (dials_from contents log.dialled) (unused contents) log.calls
-  pub text_is : record_text ≡ record_of (behind_all limits contents log)
+pub record Loop (limits : Limits) (setting : Setting) (log : Log) (record_text : List ℕ) : Type 0 where
+  pub fit : AllFit limits (dials_from setting log.dialled) (unused setting) log.calls
+  pub text_is : record_text ≡ record_of (behind_all limits setting log)

@@ -7,7 +7,7 @@ use Rattle.hc_event.specs.declared.event.Event.{Event}
 use Rattle.hc_event.specs.declared.event.Event.TheVariants as event
 use Rattle.hc_event.specs.declared.event.Request.{Request}
 use Rattle.hc_model.specs.Beginnings.{may_begin}
-use Rattle.hc_model.specs.Entries.{Contents, History}
+use Rattle.hc_model.specs.Entries.{History}
 use Rattle.hc_msg.specs.Reading.{Reading, Responses, Token, Answers, Leads, heading}
 use Rattle.hc_msg.specs.Taking.{byte_tokens}
 use Rattle.hc_peers.specs.Renderings.{is_head}
@@ -16,7 +16,7 @@ use Rattle.hc_wire.specs.Logs.{Called, Log}
 use Rattle.hc_proxy.specs.Asked.{got_from}
 use Rattle.hc_proxy.specs.Carrying.{acts_in}
 use Rattle.hc_proxy.specs.Connections.{connection_of, dials_from}
-use Rattle.hc_proxy.specs.Rows.{Proxy}
+use Rattle.hc_proxy.specs.Rows.{Proxy, Setting}
 use Rattle.hc_proxy.specs.Sentences.{IsCall}
 use Rattle.hc_proxy.specs.Turns.{turned, behind_all}
 
@@ -50,24 +50,24 @@ pub record IsOpenedFor (x : ℕ) (request : Request) (acts : List Act) : Type 0 
   pub among : Contains acts (act.Opened x c need request)
 
 -- It was opened in the turn of a call, and what its connection sent since tells this.
-pub record IsSent (limits : Limits) (contents : Contents) (log : Log) (x : ℕ) (tokens : List Token) : Type 0 where
+pub record IsSent (limits : Limits) (setting : Setting) (log : Log) (x : ℕ) (tokens : List Token) : Type 0 where
   pub call : Called
   pub p : Proxy
-  pub at : IsCall limits contents log call p
+  pub at : IsCall limits setting log call p
   pub request : Request
   pub opened : IsOpenedFor x request
-      (acts_in (turned limits (dials_from contents log.dialled) call p).part)
+      (acts_in (turned limits (dials_from setting log.dialled) call p).part)
   pub k : ℕ
-  pub connection : connection_of (dials_from contents log.dialled) x ≡ Some k
+  pub connection : connection_of (dials_from setting log.dialled) x ≡ Some k
   pub sent : HasSent (is_head request) (got_from k at.after) tokens
 
 -- Of an exchange nothing is told, or the first of what the origin sent.
-pub data IsReceived (limits : Limits) (contents : Contents) (log : Log) (x : ℕ) (tokens : List Token) : Type 0 where
-  nothing : tokens ≡ [] → IsReceived limits contents log x tokens
-  since : IsSent limits contents log x tokens → IsReceived limits contents log x tokens
+pub data IsReceived (limits : Limits) (setting : Setting) (log : Log) (x : ℕ) (tokens : List Token) : Type 0 where
+  nothing : tokens ≡ [] → IsReceived limits setting log x tokens
+  since : IsSent limits setting log x tokens → IsReceived limits setting log x tokens
 
 -- So it is of each exchange, whatever a log says.
 abbrev pub EventsAreReceived : Type 0
 EventsAreReceived =
-    (limits : Limits) (contents : Contents) (log : Log) (x : ℕ) → may_begin limits contents ≡ true →
-    IsReceived limits contents log x (received_of x (behind_all limits contents log).history)
+    (limits : Limits) (setting : Setting) (log : Log) (x : ℕ) → may_begin limits setting.contents ≡ true →
+    IsReceived limits setting log x (received_of x (behind_all limits setting log).history)

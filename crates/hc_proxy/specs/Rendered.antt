@@ -1,21 +1,21 @@
 -- What a client is owed: the answers to its own requests, as bytes, one after another; and an error answer where no
 -- request follows.
-use Rattle.std.specs.Prelude.{◌≡◌, ℕ, ◌==◌, List, [], ◌∷◌, ◌++◌, filter, Bool, true, false, Option, Some, if◌then◌else◌}
+use Rattle.std.specs.Prelude.{◌≡◌, ℕ, ◌==◌, List, [], ◌∷◌, ◌++◌, filter, map, Bool, true, false, Option, Some, if◌then◌else◌}
 use Rattle.hc_event.specs.declared.act.Act.{Act}
 use Rattle.hc_event.specs.declared.act.Act.TheVariants as act
 use Rattle.hc_event.specs.declared.event.Event.{Event}
 use Rattle.hc_event.specs.declared.event.Event.TheVariants as event
-use Rattle.hc_head.specs.declared.message.WireRequest.{WireRequest}
 use Rattle.hc_model.specs.Beginnings.{may_begin}
-use Rattle.hc_model.specs.Entries.{Contents, History}
+use Rattle.hc_model.specs.Entries.{History}
+use Rattle.hc_peers.specs.declared.reply.Asking.{Asking}
 use Rattle.hc_peers.specs.declared.reply.Reply.{Reply}
-use Rattle.hc_peers.specs.Renderings.{rendering, form_behind, reply_to, empty_answer, error_status}
+use Rattle.hc_peers.specs.Renderings.{rendering, form_behind, asking_of, empty_answer, error_status}
 use Rattle.hc_msg.specs.Reading.{Reading, Failed}
 use Rattle.hc_rules.specs.declared.room.Limits.{Limits}
 use Rattle.hc_wire.specs.declared.event.WireEvent.TheVariants as wire
 use Rattle.hc_wire.specs.Logs.{Called, Log}
 use Rattle.hc_proxy.specs.Asked.{got_from, is_at, starts_of, HasAsked}
-use Rattle.hc_proxy.specs.Rows.{Client, Proxy}
+use Rattle.hc_proxy.specs.Rows.{Client, Proxy, Setting}
 use Rattle.hc_proxy.specs.Turns.{behind_all}
 
 -- THE ANSWER of a consumer
@@ -52,10 +52,10 @@ consumers_of holder k [] = []
 consumers_of holder k (e ∷ h) = consumers_of holder k h ++ consumer_by holder k e.event
 
 -- to requests, each by its consumer
-abbrev pub answers_to : List WireRequest → List ℕ → History → List ℕ
+abbrev pub answers_to : List Asking → List ℕ → History → List ℕ
 answers_to [] cs h = []
 answers_to (r ∷ rs) [] h = []
-answers_to (r ∷ rs) (c ∷ cs) h = rendered (reply_to r) (answer_to c h) ++ answers_to rs cs h
+answers_to (r ∷ rs) (c ∷ cs) h = rendered r.reply (answer_to c h) ++ answers_to rs cs h
 
 -- WHAT A CLIENT IS OWED
 
@@ -73,16 +73,17 @@ pub record IsAnswered (k : ℕ) (calls : List Called) (p : Proxy) (client : Clie
   pub call : Called
   pub calls_are : calls ≡ before ++ call ∷ after
   pub accepted : call.event ≡ wire.Accepted k
-  pub asks : HasAsked (got_from k after) (starts_of p.holder k p.history)
+  pub asks : HasAsked p.setting.front (got_from k after) (starts_of p.holder k p.history)
   pub owed_is :
       client.owed
-      ≡ answers_to asks.asked (consumers_of p.holder k p.history) p.history
+      ≡ answers_to (map (asking_of p.setting.front) asks.asked)
+      (consumers_of p.holder k p.history) p.history
       ++ error_answer asks.reading
 
 -- So it is of each client, here or gone, whatever a log says.
 abbrev pub AnswersAreOwed : Type 0
 AnswersAreOwed =
-    (limits : Limits) (contents : Contents) (log : Log) (k : ℕ) (client : Client) →
-    may_begin limits contents ≡ true →
-    (behind_all limits contents log).client k ≡ Some client →
-    IsAnswered k log.calls (behind_all limits contents log) client
+    (limits : Limits) (setting : Setting) (log : Log) (k : ℕ) (client : Client) →
+    may_begin limits setting.contents ≡ true →
+    (behind_all limits setting log).client k ≡ Some client →
+    IsAnswered k log.calls (behind_all limits setting log) client

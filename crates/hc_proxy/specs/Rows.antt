@@ -28,8 +28,13 @@ pub record Upstream : Type 0 where
   pub input : List ℕ  -- what came of it and wasn't read
   pub ended : Bool  -- no more comes of it
 
+-- what the loop began with: what was stored, and whether a front answers those who hold a copy
+pub record Setting : Type 0 where
+  pub contents : Contents
+  pub front : Bool
+
 pub record Proxy : Type 0 where
-  pub contents : Contents  -- what the store began with
+  pub setting : Setting
   pub tables : Tables
   pub history : History
   pub part : List Entry  -- the entries of the last turn, the newest first
@@ -46,7 +51,7 @@ new_client = record {
   input = [];
   consumers = [];
   consumer = None;
-  reply = record { old = false; no_body = false; form = Headless };
+  reply = record { old = false; no_body = false; form = Headless; copy = None };
   owed = [];
   before = 0;
   closing = false;
@@ -54,15 +59,19 @@ new_client = record {
   let_go = false;
 }
 
--- before the first call, where the store begins with these contents
-abbrev pub unused : Contents → Proxy
-unused contents = record {
-  contents = contents;
-  tables = tables contents [];
+-- with these contents, and with a front or without one
+abbrev pub setting_of : Contents → Bool → Setting
+setting_of contents front = record { contents = contents; front = front }
+
+-- before the first call, where the loop begins with this
+abbrev pub unused : Setting → Proxy
+unused setting = record {
+  setting = setting;
+  tables = tables setting.contents [];
   history = [];
   part = [];
-  moment = contents.now;
-  starts = contents.last_consumer;
+  moment = setting.contents.now;
+  starts = setting.contents.last_consumer;
   accepted = [];
   client = λ k. None;
   holder = λ c. None;

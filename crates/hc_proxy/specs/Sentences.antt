@@ -5,7 +5,7 @@ use Rattle.hc_event.specs.declared.act.Act.{Act}
 use Rattle.hc_event.specs.declared.act.Act.TheVariants as act
 use Rattle.hc_rules.specs.declared.room.Limits.{Limits}
 use Rattle.hc_model.specs.Beginnings.{may_begin}
-use Rattle.hc_model.specs.Entries.{Contents, History}
+use Rattle.hc_model.specs.Entries.{History}
 use Rattle.hc_model.specs.Exchanges.{is_open}
 use Rattle.hc_sched.specs.declared.schedule.Timed.{Timed}
 use Rattle.hc_wire.specs.declared.connection.Standing.{Standing}
@@ -14,7 +14,7 @@ use Rattle.hc_proxy.specs.Connections.{connection_of, dials_from, dials_in, has_
 use Rattle.hc_proxy.specs.Endings.{IsFinished, IsLog}
 use Rattle.hc_proxy.specs.Listening.{is_read}
 use Rattle.hc_proxy.specs.Network.{open_exchanges}
-use Rattle.hc_proxy.specs.Rows.{Client, Proxy, unused}
+use Rattle.hc_proxy.specs.Rows.{Client, Proxy, Setting, unused}
 use Rattle.hc_proxy.specs.Sending.{owed_by, owed_to}
 use Rattle.hc_proxy.specs.Standings.{Whose, OfClient, OfExchange, OfNobody, whose}
 use Rattle.hc_proxy.specs.Turns.{so_far, turned_by, behind_all, due_events, record_of, text_behind}
@@ -22,11 +22,11 @@ use Rattle.hc_proxy.specs.Waiting.{waits}
 
 -- A CALL of `next`, and the tables behind the turns before it
 
-pub record IsCall (limits : Limits) (contents : Contents) (log : Log) (call : Called) (p : Proxy) : Type 0 where
+pub record IsCall (limits : Limits) (setting : Setting) (log : Log) (call : Called) (p : Proxy) : Type 0 where
   pub before : List Called
   pub after : List Called
   pub calls : log.calls ≡ before ++ call ∷ after
-  pub tables : p ≡ turned_by limits (dials_from contents log.dialled) before (unused contents)
+  pub tables : p ≡ turned_by limits (dials_from setting log.dialled) before (unused setting)
 
 -- whose a connection is then
 abbrev pub whose_at : Log → Proxy → ℕ → Whose
@@ -63,10 +63,10 @@ pub record IsCallAsSaid (limits : Limits) (log : Log) (call : Called) (p : Proxy
 -- THE LOG
 
 -- the events of the first n turns, those of one turn behind those of another
-abbrev pub events_till : Limits → Contents → Log → ℕ → List Timed
-events_till limits contents log zero = []
-events_till limits contents log (suc n) =
-    events_till limits contents log n ++ due_events limits contents log (suc n)
+abbrev pub events_till : Limits → Setting → Log → ℕ → List Timed
+events_till limits setting log zero = []
+events_till limits setting log (suc n) =
+    events_till limits setting log n ++ due_events limits setting log (suc n)
 
 -- how many exchanges acts open, and a history
 abbrev pub opened_in : List Act → ℕ
@@ -78,20 +78,20 @@ abbrev pub opened_by : History → ℕ
 opened_by [] = 0
 opened_by (e ∷ h) = opened_by h + opened_in e.acts
 
-pub record IsLogAsSaid (limits : Limits) (contents : Contents) (log : Log) : Type 0 where
-  pub calls : (call : Called) (p : Proxy) → IsCall limits contents log call p →
+pub record IsLogAsSaid (limits : Limits) (setting : Setting) (log : Log) : Type 0 where
+  pub calls : (call : Called) (p : Proxy) → IsCall limits setting log call p →
       IsCallAsSaid limits log call p
   -- The record is the text of the events of all turns, from the moment of the contents on.
-  pub text : record_of (behind_all limits contents log)
-      ≡ text_behind contents.now (events_till limits contents log (length log.calls))
+  pub text : record_of (behind_all limits setting log)
+      ≡ text_behind setting.contents.now (events_till limits setting log (length log.calls))
   -- No more connections are dialled than exchanges are opened.
-  pub dials : length log.dialled ≤ opened_by (behind_all limits contents log).history
+  pub dials : length log.dialled ≤ opened_by (behind_all limits setting log).history
 
 -- So it is of each log of the loop.
 abbrev pub LogsAreAsSaid : Type 0
 LogsAreAsSaid =
-    (limits : Limits) (contents : Contents) (log : Log) → may_begin limits contents ≡ true →
-    IsLog limits contents log → IsLogAsSaid limits contents log
+    (limits : Limits) (setting : Setting) (log : Log) → may_begin limits setting.contents ≡ true →
+    IsLog limits setting log → IsLogAsSaid limits setting log
 
 -- BEHIND THE LAST TURN
 
@@ -113,6 +113,6 @@ pub record IsEndAsSaid (log : Log) (p : Proxy) : Type 0 where
 -- So it is of each log behind which nothing is lacking.
 abbrev pub EndsAreAsSaid : Type 0
 EndsAreAsSaid =
-    (limits : Limits) (contents : Contents) (log : Log) → may_begin limits contents ≡ true →
-    IsLog limits contents log → IsFinished log (behind_all limits contents log) →
-    IsEndAsSaid log (behind_all limits contents log)
+    (limits : Limits) (setting : Setting) (log : Log) → may_begin limits setting.contents ≡ true →
+    IsLog limits setting log → IsFinished log (behind_all limits setting log) →
+    IsEndAsSaid log (behind_all limits setting log)

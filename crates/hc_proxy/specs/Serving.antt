@@ -4,7 +4,6 @@ use Rattle.std.specs.List.{list_all}
 use Rattle.hc_core.specs.Steps.{faults_in}
 use Rattle.hc_io.specs.Faults as sink
 use Rattle.hc_io.specs.Sink.{Takes, TakesPrefix}
-use Rattle.hc_model.specs.Entries.{Contents}
 use Rattle.hc_rules.specs.declared.room.Limits.{Limits}
 use Rattle.hc_sched.specs.declared.schedule.Ended.{Ended}
 use Rattle.hc_store.specs.declared.backend.Backend.{Ghosts}
@@ -22,28 +21,28 @@ use Rattle.hc_proxy.specs.Logging.{Follows}
 use Rattle.hc_proxy.specs.Loops.{AllFit}
 use Rattle.hc_proxy.specs.Records.{text_of}
 use Rattle.hc_proxy.specs.Resting.{Rests, IsWithin}
-use Rattle.hc_proxy.specs.Rows.{Proxy, unused}
+use Rattle.hc_proxy.specs.Rows.{Proxy, Setting, unused}
 use Rattle.hc_proxy.specs.Turns.{behind_all, behind_calls, record_of}
 use Rattle.hc_proxy.specs.Waiting.{waits}
 
 -- THE LOG
 
 -- Between turns: its calls fit, the tables are those behind them, and each connection has taken a first part of what it is owed.
-pub record IsOfLoop (limits : Limits) (contents : Contents) (log : Log) (p : Proxy) : Type 0 where
-  pub fit : AllFit limits (dials_from contents log.dialled) (unused contents) log.calls
-  pub tables : p ≡ behind_all limits contents log
-  pub sent : list_all (was_sent (dials_from contents log.dialled) p) log.takers ≡ true
+pub record IsOfLoop (limits : Limits) (setting : Setting) (log : Log) (p : Proxy) : Type 0 where
+  pub fit : AllFit limits (dials_from setting log.dialled) (unused setting) log.calls
+  pub tables : p ≡ behind_all limits setting log
+  pub sent : list_all (was_sent (dials_from setting log.dialled) p) log.takers ≡ true
 
 -- The last turn was cut short: what was written before it is the record of the turns before, and some first part of the
 -- rest was written since.
-pub record IsCutShort (limits : Limits) (contents : Contents) (log : Log) (written : List ℕ) (out out' : Option (List ℕ)) : Type 0 where
-  pub is_log : IsLog limits contents log
+pub record IsCutShort (limits : Limits) (setting : Setting) (log : Log) (written : List ℕ) (out out' : Option (List ℕ)) : Type 0 where
+  pub is_log : IsLog limits setting log
   pub turns : ℕ
   pub all_but_one : length log.calls ≤ turns + 1
-  pub written_is : written ≡ record_of (behind_calls limits contents log turns)
+  pub written_is : written ≡ record_of (behind_calls limits setting log turns)
   pub text : List ℕ
   pub takes : TakesPrefix out out' text
-  pub record_is : record_of (behind_all limits contents log) ≡ written ++ text
+  pub record_is : record_of (behind_all limits setting log) ≡ written ++ text
 
 -- all its connections are closed, if the wire tells it
 abbrev pub all_closed : Log → Log
@@ -78,7 +77,7 @@ module _ {B : Type 0} {g : Ghosts B} where
 
   -- before the first
   pub record Begins (n : ℕ) (f : Frame) (x : loop.Proxy B g) (log : Log) (reported : Option Log) (stages : ℕ → Stage) : Type 0 where
-    pub still : IsStill n f x (unused f.contents) log reported stages
+    pub still : IsStill n f x (unused f.setting) log reported stages
     pub fresh : IsFresh log
     pub unwritten : f.written ≡ []
 
@@ -124,14 +123,14 @@ module _ {B : Type 0} {g : Ghosts B} where
     pub log' : Log
     pub still : IsStill n f' x' p' log' reported stages
     pub limits : f'.limits ≡ f.limits
-    pub contents : f'.contents ≡ f.contents
+    pub setting : f'.setting ≡ f.setting
     pub text : List ℕ
     pub takes : Takes out out' text
     pub written : f'.written ≡ f.written ++ text
     pub again_is : again ≡ waits f.limits p'
     pub bound : log'.bound ≡ log.bound
     pub calls : length log'.calls ≡ length log.calls + 1
-    pub goes : faults_in x'.cache ≡ faults_in x.cache → IsOfLoop f.limits f.contents log p → IsOfLoop f.limits f.contents log' p'
+    pub goes : faults_in x'.cache ≡ faults_in x.cache → IsOfLoop f.limits f.setting log p → IsOfLoop f.limits f.setting log' p'
 
   -- It was cut short.
   pub record TurnStops (f : Frame) (p : Proxy) (log : Log) (x x' : loop.Proxy B g) (reported : Option Log) (out out' : Option (List ℕ)) : Type 0 where
@@ -139,13 +138,14 @@ module _ {B : Type 0} {g : Ghosts B} where
     pub reported_is : (reported ≡ None) ⊎ (reported ≡ Some log')
     pub bound : log'.bound ≡ log.bound
     pub calls : length log'.calls ≤ length log.calls + 1
-    pub goes : faults_in x'.cache ≡ faults_in x.cache → IsOfLoop f.limits f.contents log p → IsCutShort f.limits f.contents log' f.written out out'
+    pub goes : faults_in x'.cache ≡ faults_in x.cache → IsOfLoop f.limits f.setting log p → IsCutShort f.limits f.setting log' f.written out out'
 
 -- ALL OF IT
 
 -- how it ends, for some log that the wire tells if it tells one
-pub record EndsBy (limits : Limits) (contents : Contents) (turns : ℕ) (log : Log) (reported : Option Log) (out out' : Option (List ℕ)) (end : Ended) : Type 0 where
+pub record EndsBy (limits : Limits) (setting : Setting) (turns : ℕ) (log : Log) (reported : Option Log) (out out' : Option (List ℕ))
+    (end : Ended) : Type 0 where
   pub log' : Log
   pub reported_is : (reported ≡ None) ⊎ (reported ≡ Some log')
   pub bound : log'.bound ≡ log.bound
-  pub serves : Serves limits contents turns log' out out' end
+  pub serves : Serves limits setting turns log' out out' end

@@ -9,7 +9,8 @@ use Rattle.hc_msg.specs.Reading.{Reading, Failed, Token, Asks}
 use Rattle.hc_rules.specs.declared.room.Limits.{Limits}
 use Rattle.hc_proxy.specs.Connections.{has_unsent}
 use Rattle.hc_proxy.specs.Handling.{clients_here}
-use Rattle.hc_peers.specs.Renderings.{reply_to, empty_answer, error_status}
+use Rattle.hc_peers.specs.declared.reply.Reply.{Reply}
+use Rattle.hc_peers.specs.Renderings.{asked_of, reply_to, empty_answer, error_status}
 use Rattle.hc_proxy.specs.Rows.{Client, Proxy, with, with_client}
 use Rattle.hc_proxy.specs.Steps.{stepped}
 
@@ -18,22 +19,22 @@ read_to reading rest client = record client { reading = reading; input = rest }
 
 -- A WHOLE REQUEST
 
-abbrev pub asks : ℕ → WireRequest → Client → Client
-asks c request client = record client {
+abbrev pub asks : ℕ → Reply → Client → Client
+asks c reply client = record client {
   consumers = c ∷ client.consumers;
   consumer = Some c;
-  reply = reply_to request;
+  reply = reply;
 }
 
 abbrev pub with_holder : ℕ → ℕ → Proxy → Proxy
 with_holder c k p = record p { starts = c; holder = with c k p.holder }
 
--- its consumer has the next number
+-- its consumer has the next number, and asks for what is asked behind a front
 abbrev pub started : Limits → ℕ → WireRequest → Proxy → Proxy
 started limits k request p =
     let c = p.starts + 1 in
-    stepped limits (event.Start c request.request)
-    (with_holder c k (with_client k (asks c request) p))
+    stepped limits (event.Start c (asked_of p.setting.front request))
+    (with_holder c k (with_client k (asks c (reply_to p.setting.front request)) p))
 
 -- ONE THAT IS REFUSED
 

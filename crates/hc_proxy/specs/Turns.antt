@@ -4,13 +4,13 @@ use Rattle.hc_sched.specs.declared.schedule.Timed.{Timed}
 use Rattle.hc_sched.specs.Schedule.{timed_text}
 use Rattle.hc_wire.specs.Logs.{Called, Log}
 use Rattle.hc_rules.specs.declared.room.Limits.{Limits}
-use Rattle.hc_model.specs.Entries.{Entry, Contents}
+use Rattle.hc_model.specs.Entries.{Entry}
 use Rattle.hc_proxy.specs.Carrying.{carried}
 use Rattle.hc_proxy.specs.Connections.{dials_from}
 use Rattle.hc_proxy.specs.Handling.{begun, handled}
 use Rattle.hc_proxy.specs.Network.{heard}
 use Rattle.hc_proxy.specs.Polls.{polled_all}
-use Rattle.hc_proxy.specs.Rows.{Proxy, unused}
+use Rattle.hc_proxy.specs.Rows.{Proxy, Setting, unused}
 use Rattle.hc_proxy.specs.Starts.{started_all}
 
 -- of all connections that are dialled, those of the exchanges so far: the dials before the next call
@@ -32,13 +32,13 @@ turned_by limits dialled (call ∷ calls) p =
     turned_by limits dialled calls (turned limits dialled call p)
 
 -- the tables behind all calls of a log, and behind the first n, where the store begins with these contents
-abbrev pub behind_all : Limits → Contents → Log → Proxy
-behind_all limits contents log =
-    turned_by limits (dials_from contents log.dialled) log.calls (unused contents)
+abbrev pub behind_all : Limits → Setting → Log → Proxy
+behind_all limits setting log =
+    turned_by limits (dials_from setting log.dialled) log.calls (unused setting)
 
-abbrev pub behind_calls : Limits → Contents → Log → ℕ → Proxy
-behind_calls limits contents log n =
-    turned_by limits (dials_from contents log.dialled) (take n log.calls) (unused contents)
+abbrev pub behind_calls : Limits → Setting → Log → ℕ → Proxy
+behind_calls limits setting log n =
+    turned_by limits (dials_from setting log.dialled) (take n log.calls) (unused setting)
 
 -- THE PARTS AND THE RECORD
 
@@ -60,8 +60,8 @@ text_behind last (timed ∷ events) = timed_text last timed ++ text_behind timed
 
 -- the record, which goes on from the moment of the contents
 abbrev pub record_of : Proxy → List ℕ
-record_of p = text_behind p.contents.now (events_of p)
+record_of p = text_behind p.setting.contents.now (events_of p)
 
 -- the part of turn n, from 1
-abbrev pub due_events : Limits → Contents → Log → ℕ → List Timed
-due_events limits contents log n = part_of (behind_calls limits contents log n)
+abbrev pub due_events : Limits → Setting → Log → ℕ → List Timed
+due_events limits setting log n = part_of (behind_calls limits setting log n)

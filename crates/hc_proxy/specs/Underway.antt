@@ -90,7 +90,7 @@ module _ {B : Type 0} {g : Ghosts B} where
 pub record OnWire (t : Turn) (log : Log) (reported : Option Log) (stages : ℕ → Stage) : Type 0 where
   pub follows : Follows reported stages log
   pub stands : (k : ℕ) → stages k ≡ t.stages k
-  pub dialled : dials_from t.frame.contents log.dialled ≡ t.dialled
+  pub dialled : dials_from t.frame.setting log.dialled ≡ t.dialled
   pub taken : (k : ℕ) → (t.stages k ≡ Closed) ⊎ (taken_at t.call k ≡ length (sent_in log.takers k))
 
 -- where so many more were dialled

@@ -109,5 +109,6 @@ pub record OthersStay {B : Type 0} {g : Ghosts B} (x x' : loop.Proxy B g) : Type
   pub acts : x'.acts ≡ x.acts
   pub now : x'.now ≡ x.now
   pub starts : x'.starts ≡ x.starts
+  pub front : x'.front ≡ x.front
   pub moved : x'.moved ≡ x.moved
   pub closed : x'.closed ≡ x.closed

@@ -34,6 +34,8 @@ pub(crate) struct Proxy<B: Backend> {
     pub(crate) now: u64,
     /// The number of the last consumer.
     pub(crate) starts: u64,
+    /// Whether a front answers requests on condition of a copy.
+    pub(crate) front: bool,
     /// In this turn something happened beside polls whose consumers wait.
     pub(crate) moved: bool,
     pub(crate) clients: Clients,
@@ -47,12 +49,12 @@ pub(crate) struct Proxy<B: Backend> {
 impl<B: Backend> Proxy<B> {
     /// Over a cache that stepped no event yet, with nobody connected. The last consumer of the contents
     /// that it began with has the number `last`.
-    pub(crate) fn new(alloc: Global, cache: Cache<B>, last: u64) -> Proxy<B>
+    pub(crate) fn new(alloc: Global, cache: Cache<B>, last: u64, front: bool) -> Proxy<B>
         ensures cache { result.cache ≡ cache }
         ensures written { text_of result.«record» ≡ [] }
         ensures rests { (f : Frame) (log : Log) → IsUnused f cache
-            → last ≡ f.contents.last_consumer → IsFresh log
-            → Rests f result (unused f.contents) log }
+            → last ≡ f.setting.contents.last_consumer → front ≡ f.setting.front → IsFresh log
+            → Rests f result (unused f.setting) log }
     {
         let now = cache.last_moment();
         Proxy {
@@ -61,6 +63,7 @@ impl<B: Backend> Proxy<B> {
             acts: Acts::new(alloc),
             now,
             starts: last,
+            front,
             moved: false,
             clients: Clients::new(alloc),
             upstreams: Upstreams::new(alloc),

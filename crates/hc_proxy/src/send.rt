@@ -113,12 +113,14 @@ fn offer_upstreams<B: Backend, W: Wire>(
     wire: &mut W,
 ) -> Result<(), Stop>
     ensures ok { (p : rows.Proxy) (log : Log) (cl : Clients)
-        → StandsFor cache.now p.contents p.history → p.tables ≡ tables p.contents p.history
+        → StandsFor cache.now p.setting.contents p.history
+        → p.tables ≡ tables p.setting.contents p.history
         → SendsToOrigins p log xs.now cl upstreams.old (W.log wire.old) (W.stages wire.old)
         → OnOk result (SendsToOrigins p log [] cl upstreams.new (W.log wire.new)
         (W.stages wire.new)) }
     ensures err { (p : rows.Proxy) (log : Log) (cl : Clients)
-        → StandsFor cache.now p.contents p.history → p.tables ≡ tables p.contents p.history
+        → StandsFor cache.now p.setting.contents p.history
+        → p.tables ≡ tables p.setting.contents p.history
         → SendsToOrigins p log xs.now cl upstreams.old (W.log wire.old) (W.stages wire.old)
         → OnErr result (SentSome p log (W.log wire.new)) }
     ensures events { W.events wire.new ≡ W.events wire.old }

@@ -11,6 +11,7 @@ ghost use Rattle.hc_proxy.specs.Endings.{IsFresh, MayEnd};
 ghost use Rattle.hc_proxy.specs.Keeping.{Frame, Turn, IsStocked, IsStockedSome, Begun, IsBegun, KeepsPolled, Goes};
 ghost use Rattle.hc_proxy.specs.Logging.{Follows};
 ghost use Rattle.hc_proxy.specs.Resting.{Rests};
+ghost use Rattle.hc_proxy.specs.Rows.{setting_of};
 ghost use Rattle.hc_proxy.specs.Rows as rows;
 ghost use Rattle.hc_proxy.specs.Serving.{Begins, EndsBy, HasCauses, IsBeginning, IsClosed, IsReady, IsStill, TurnStops, TurnsTo, FinishesTurn, CutsTurn};
 ghost use Rattle.hc_proxy.specs.Served.{ServesAs, ServesWith};
@@ -66,17 +67,19 @@ pub fn serve_on<B: Backend + Drop, W: Wire, K: Sink>(
         → sink.HasRisen (K.faults log.old) (K.faults log.new) }
     ensures sink_calm { result ≢ ended.SinkFailed → K.faults log.new ≡ K.faults log.old }
 {
-    serve_from(alloc, cache, 0, wire, log, turns)
+    serve_from(alloc, cache, 0, false, wire, log, turns)
 }
 
 /// The same from a cache that began with contents, and stepped no event yet. What is stored there is
 /// served at once. `last` is the number of their last consumer: those of the clients go on behind it,
 /// exchanges behind theirs, and the moments from theirs on. So does the record, which is a schedule
-/// that goes on from their image.
+/// that goes on from their image. A front answers each request on condition of a copy that its client
+/// has, where nothing else speaks against that: the cache is asked without the condition.
 pub fn serve_from<B: Backend + Drop, W: Wire, K: Sink>(
     alloc: Global,
     cache: Cache<B>,
     last: u64,
+    front: bool,
     wire: &mut W,
     log: &mut K,
     turns: u64,
@@ -90,8 +93,9 @@ pub fn serve_from<B: Backend + Drop, W: Wire, K: Sink>(
 
     // Over a store whose count of failures is constant.
     ensures serves { ((a b : B) → B.faults a ≡ B.faults b) → (contents : Contents)
-        → IsStocked contents cache last → ServesWith (limits_in cache) contents turns
-        (W.log wire.old) (W.log wire.new) (K.taken log.old) (K.taken log.new) result }
+        → IsStocked contents cache last
+        → ServesWith (limits_in cache) (setting_of contents front) turns (W.log wire.old)
+        (W.log wire.new) (K.taken log.old) (K.taken log.new) result }
 
     // How it ends, over any store.
     ensures ends { MayEnd result }
@@ -101,7 +105,7 @@ pub fn serve_from<B: Backend + Drop, W: Wire, K: Sink>(
         → sink.HasRisen (K.faults log.old) (K.faults log.new) }
     ensures sink_calm { result ≢ ended.SinkFailed → K.faults log.new ≡ K.faults log.old }
 {
-    let mut proxy = Proxy::new(alloc, cache, last);
+    let mut proxy = Proxy::new(alloc, cache, last, front);
     match proxy.serve(wire, log, turns) {
         Ok(()) => Ended::Done,
         Err(stop) => stop.ended(),
@@ -115,7 +119,7 @@ impl<B: Backend> Proxy<B> {
             self.old ∥₁ }
         ensures serves { ((a b : B) → B.faults a ≡ B.faults b) → (f : Frame) (before : logs.Log)
             → Begins (W.events wire.old) f self.old before (W.log wire.old) (W.stages wire.old)
-            → EndsBy f.limits f.contents turns before (W.log wire.new) (K.taken log.old)
+            → EndsBy f.limits f.setting turns before (W.log wire.new) (K.taken log.old)
             (K.taken log.new) (ended_as result) }
         ensures causes { HasCauses (W.faults wire.old) (W.faults wire.new)
             (K.faults log.old) (K.faults log.new) result }

@@ -42,7 +42,7 @@ impl<B: Backend> Proxy<B> {
         ensures steps { OnOk result (steps self.new.cache ≤ steps self.old.cache + 1) }
     {
         let c = self.starts + 1;
-        match self.clients.hear_next(c)? {
+        match self.clients.hear_next(c, self.front)? {
             NextRequest::Nobody => Ok(false),
             NextRequest::Nothing => Ok(true),
             NextRequest::Asks(_, request) => {

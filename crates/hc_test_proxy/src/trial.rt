@@ -1,5 +1,7 @@
 //! A script that lines make, and what its run came to.
-ghost use Rattle.std.specs.Prelude.{◌≡◌, ℕ, IfOk, IfSome};
+ghost use Rattle.std.specs.Prelude.{◌≡◌, ◌+◌, ℕ, [], IfOk, IfSome};
+ghost use Rattle.hc_core.specs.Steps.{StandsFor, bytes_received, steps};
+ghost use Rattle.hc_model.specs.Entries.{no_contents};
 ghost use Rattle.hc_wire.specs.Events.{Unseen};
 ghost use Rattle.hc_wire.specs.Scripts.{IsScript};
 ghost use Rattle.hc_proxy.specs.Endings.{IsFresh};
@@ -35,12 +37,13 @@ struct Stall {
     after: usize,
 }
 
-/// The script of the next run and the image that it begins with, none where that is empty; and what
-/// the last one came to.
+/// The script of the next run, the image that it begins with, none where that is empty, and whether it
+/// has a front; and what the last one came to.
 #[derive(Drop)]
 pub(crate) struct Trial {
     alloc: Global,
     image: Vec<u8>,
+    front: bool,
     script: Vec<Scripted>,
     stalls: Vec<Stall>,
     wire: ScriptWire,
@@ -53,6 +56,7 @@ impl Trial {
         Trial {
             alloc,
             image: Vec::new(alloc),
+            front: false,
             script: Vec::new(alloc),
             stalls: Vec::new(alloc),
             wire: ScriptWire::new(alloc, Vec::new(alloc), Vec::new(alloc)),
@@ -84,6 +88,7 @@ impl Trial {
     fn serve(&mut self, turns: u64) -> Result<Ended, Fault> {
         let alloc = self.alloc;
         let image = mem::replace(&mut self.image, Vec::new(alloc));
+        let front = mem::replace(&mut self.front, false);
         let script = mem::replace(&mut self.script, Vec::new(alloc));
         let stalls = mem::replace(&mut self.stalls, Vec::new(alloc));
         if !is_script(script.as_slice()) {
@@ -93,10 +98,10 @@ impl Trial {
         let mut record = MemorySink::new(alloc, Vec::new(alloc));
         let ended = if image.is_empty() {
             let cache = Cache::new(Memory::new(alloc, LIMITS), LIMITS, alloc)?;
-            serve_on(alloc, cache, &mut wire, &mut record, turns)
+            begin(alloc, cache, front, &mut wire, &mut record, turns)
         } else {
             let contents = contents_of(alloc, image.as_slice())?;
-            go_on(alloc, contents, &mut wire, &mut record, turns)?
+            go_on(alloc, contents, front, &mut wire, &mut record, turns)?
         };
         self.wire = wire;
         self.record = record;
@@ -111,6 +116,7 @@ impl Calls for Trial {
             "record" => return quote_runs(self.alloc, self.record.taken(), value),
             "sent n" => return quote_runs(self.alloc, self.wire.sent(v.number(0)), value),
             "image t" => self.image = v.text(0).to_vec(self.alloc)?,
+            "front" => self.front = true,
             "stall nn" => self.stall(v)?,
             "accepted nnn" => self.accept_all(v)?,
             _ => self.script.push(event_of(v)?)?,
@@ -127,10 +133,32 @@ fn contents_of(alloc: Global, image: &[u8]) -> Result<Contents, Fault> {
     }
 }
 
+/// Makes so many turns over an empty cache.
+fn begin(
+    alloc: Global,
+    cache: Cache<Memory>,
+    front: bool,
+    wire: &mut ScriptWire,
+    record: &mut MemorySink,
+    turns: u64,
+) -> Ended
+    requires new { StandsFor cache no_contents [] }
+    requires unused { steps cache + bytes_received cache ≡ 0 }
+    requires fresh { IfSome (⟦<ScriptWire as Wire>⟧.log wire.old) IsFresh }
+    requires unseen { (k : ℕ) → ⟦<ScriptWire as Wire>⟧.stages wire.old k ≡ Unseen }
+{
+    if front {
+        serve_from(alloc, cache, 0, true, wire, record, turns)
+    } else {
+        serve_on(alloc, cache, wire, record, turns)
+    }
+}
+
 /// Makes so many turns over a cache that begins with these contents.
 fn go_on(
     alloc: Global,
     contents: Contents,
+    front: bool,
     wire: &mut ScriptWire,
     record: &mut MemorySink,
     turns: u64,
@@ -144,7 +172,7 @@ fn go_on(
     }
     let store = Memory::new(alloc, LIMITS);
     match Cache::with_contents(store, LIMITS, &contents, alloc) {
-        Ok(cache) => Ok(serve_from(alloc, cache, last, wire, record, turns)),
+        Ok(cache) => Ok(serve_from(alloc, cache, last, front, wire, record, turns)),
         Err(_) => Err(Fault::NoSuchCall),
     }
 }

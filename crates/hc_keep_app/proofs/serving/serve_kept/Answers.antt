@@ -1,6 +1,6 @@
-use Rattle.std.{proofs.Common.{◌∙◌, refl, subst}, specs.Prelude.{None, Some}}
+use Rattle.std.{proofs.Common.{◌∙◌, refl, subst}, specs.Prelude.{None, Some, true}}
 use Rattle.hc_contents.specs.PlainContents.{plain_contents}
-use Rattle.hc_proxy.specs.Served.{ServesWith}
+use Rattle.hc_proxy.specs.{Rows.{setting_of}, Served.{ServesWith}}
 use Rattle.hc_rules.specs.declared.room.Limits.{Limits}
 use Rattle.hc_keep_app.specs.Serving.{HasEndedWire}
 use Rattle.hc_keep_app.proofs.Unserved.{fresh_bound, ended_wire, never_risen}
@@ -51,8 +51,8 @@ returns-clause-served g c =
       bound = g.W.Wire.log c.begin.new.wire;
       binds = b.binds;
       serves = subst (λ (l : Limits).
-          ServesWith l (plain_contents b.kept.contents) c.args.serving.turns (g.W.Wire.log c.begin.new.wire) (g.W.Wire.log c.serve_from.new.wire) None None
-          c.serve_from.result) b.ready_is.limits_are
+          ServesWith l (setting_of (plain_contents b.kept.contents) true) c.args.serving.turns (g.W.Wire.log c.begin.new.wire)
+          (g.W.Wire.log c.serve_from.new.wire) None None c.serve_from.result) b.ready_is.limits_are
           (c.serve_from.ensures.serves (λ a b. refl) (plain_contents b.kept.contents) b.ready_is.stocked);
       never = (λ is. never_risen (c.serve_from.ensures.sink is));
     }

@@ -15,7 +15,7 @@ loop-x-preserved g c = record {
       let i = c.loop-x.x-index in
       let lt : i < length xs = let on = c.loop-x-test.true in search rules in
       let y = get_or xs i 0 in
-      let wanted : c.wants-on.result ≡ is_wanted (p.tables.exchange y) = c.wants-on.ensures p.contents p.history stands ∙
+      let wanted : c.wants-on.result ≡ is_wanted (p.tables.exchange y) = c.wants-on.ensures p.setting.contents p.history stands ∙
       ap (λ (t : Tables). is_wanted (t.exchange y)) (sym same) in
       origins_next p log cl g.W.Wire.stages g.W.Wire.log c.loop-x.wire c.offer.new.wire c.loop-x.upstreams c.offer.new.self y c.wants-on.result
       (drop (i + 1) xs)

@@ -9,7 +9,7 @@ use Rattle.hc_proxy.proofs.send.offer_upstreams.Given as goal
 
 abbrev pub invariant-loop-x : goal.invariant-loop-x
 invariant-loop-x g l = record {
-  sends : (p : rows.Proxy) (log : Log) (cl : Clients) → StandsFor l.fn.cache p.contents p.history → p.tables ≡ tables p.contents p.history
+  sends : (p : rows.Proxy) (log : Log) (cl : Clients) → StandsFor l.fn.cache p.setting.contents p.history → p.tables ≡ tables p.setting.contents p.history
       → SendsToOrigins p log l.xs cl l.fn.upstreams (g.W.Wire.log l.fn.wire) (g.W.Wire.stages l.fn.wire)
       → SendsToOrigins p log (drop l.x-index l.xs) cl l.upstreams (g.W.Wire.log l.wire) (g.W.Wire.stages l.wire);
   events : g.W.Wire.events l.wire ≡ g.W.Wire.events l.fn.wire;

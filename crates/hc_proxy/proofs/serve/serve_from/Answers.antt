@@ -1,7 +1,7 @@
 use Rattle.std.proofs.{Common.{◌≡◌, ◌+◌, Ok, Err, refl, ap, sym, ◌∙◌, subst, arith}, Math.Logic.{∥∥₁_map}}
 use Rattle.hc_core.specs.Steps.{steps, limits_in, bytes_received}
 use Rattle.hc_sched.specs.declared.schedule.Ended.TheVariants as ended
-use Rattle.hc_proxy.specs.{Endings.{MayEnd}, Stops.{ended_by}, Served.{ServesWith}}
+use Rattle.hc_proxy.specs.{Endings.{MayEnd}, Stops.{ended_by}, Served.{ServesWith}, Rows.{setting_of}}
 use Rattle.hc_proxy.proofs.{Causes.{may_end, ends_wire, ends_wire_calm, ends_sink, ends_sink_calm}, LoopGoes.{log_of, frame_of, unused_so, loop_begins, reported_ends, reported_first}}
 use Rattle.hc_proxy.proofs.serve.serve_from.Goals as goal
 
@@ -10,12 +10,12 @@ serve-requires g c = record {
   begins = ∥∥₁_map c.requires.stocked (λ s.
       let cache = c.args.cache in
       let zero : steps cache + bytes_received cache ≡ 0 = c.requires.unused in (
-        frame_of (limits_in cache) s.0,
+        frame_of (limits_in cache) (setting_of s.0 c.args.front),
         log_of (g.W.Wire.log c.args.wire.now),
-        loop_begins (g.W.Wire.events c.args.wire.now) (limits_in cache) s.0 c.new-proxy.result (g.W.Wire.log c.args.wire.now)
+        loop_begins (g.W.Wire.events c.args.wire.now) (limits_in cache) (setting_of s.0 c.args.front) c.new-proxy.result (g.W.Wire.log c.args.wire.now)
             (g.W.Wire.stages c.args.wire.now) c.requires.fresh c.requires.unseen
-            (λ log fresh. c.new-proxy.ensures.rests (frame_of (limits_in cache) s.0) log
-            (unused_so (limits_in cache) s.0 cache c.args.last s.1 refl zero c.requires.few) s.1.last_is fresh)
+            (λ log fresh. c.new-proxy.ensures.rests (frame_of (limits_in cache) (setting_of s.0 c.args.front)) log
+            (unused_so (limits_in cache) (setting_of s.0 c.args.front) cache c.args.last s.1 refl zero c.requires.few) s.1.last_is refl fresh)
             (ap steps c.new-proxy.ensures.cache ∙ omega arith) c.new-proxy.ensures.written,
       ));
 }
@@ -25,13 +25,15 @@ returns-in-Ok-clause-serves g c = λ none contents stocked.
     let cache = c.args.cache in
     let reported = g.W.Wire.log c.args.wire.now in
     let zero : steps cache + bytes_received cache ≡ 0 = c.requires.unused in
-    reported_ends (limits_in cache) contents stocked.stands.begins c.args.turns (log_of reported) reported (g.W.Wire.log c.serve.new.wire)
+    reported_ends (limits_in cache) (setting_of contents c.args.front) stocked.stands.begins c.args.turns (log_of reported) reported
+    (g.W.Wire.log c.serve.new.wire)
     (g.K.Sink.taken c.args.log.now) (g.K.Sink.taken c.serve.new.log) ended.Done (reported_first reported)
-    (c.in-Ok.ensures.serves none (frame_of (limits_in cache) contents) (log_of reported)
-    (loop_begins (g.W.Wire.events c.args.wire.now) (limits_in cache) contents c.new-proxy.result reported (g.W.Wire.stages c.args.wire.now)
+    (c.in-Ok.ensures.serves none (frame_of (limits_in cache) (setting_of contents c.args.front)) (log_of reported)
+    (loop_begins (g.W.Wire.events c.args.wire.now) (limits_in cache) (setting_of contents c.args.front) c.new-proxy.result reported
+    (g.W.Wire.stages c.args.wire.now)
     c.requires.fresh c.requires.unseen
-    (λ log fresh. c.new-proxy.ensures.rests (frame_of (limits_in cache) contents) log
-    (unused_so (limits_in cache) contents cache c.args.last stocked refl zero c.requires.few) stocked.last_is fresh)
+    (λ log fresh. c.new-proxy.ensures.rests (frame_of (limits_in cache) (setting_of contents c.args.front)) log
+    (unused_so (limits_in cache) (setting_of contents c.args.front) cache c.args.last stocked refl zero c.requires.few) stocked.last_is refl fresh)
     (ap steps c.new-proxy.ensures.cache ∙ omega arith) c.new-proxy.ensures.written))
 
 pub returns-clause-serves : goal.returns-clause-serves
@@ -39,15 +41,17 @@ returns-clause-serves g c = λ none contents stocked.
     let cache = c.args.cache in
     let reported = g.W.Wire.log c.args.wire.now in
     let zero : steps cache + bytes_received cache ≡ 0 = c.requires.unused in
-    subst (ServesWith (limits_in cache) contents c.args.turns reported (g.W.Wire.log c.serve.new.wire) (g.K.Sink.taken c.args.log.now)
+    subst (ServesWith (limits_in cache) (setting_of contents c.args.front) c.args.turns reported (g.W.Wire.log c.serve.new.wire) (g.K.Sink.taken c.args.log.now)
     (g.K.Sink.taken c.serve.new.log)) (sym c.ended.ensures)
-    (reported_ends (limits_in cache) contents stocked.stands.begins c.args.turns (log_of reported) reported (g.W.Wire.log c.serve.new.wire)
+    (reported_ends (limits_in cache) (setting_of contents c.args.front) stocked.stands.begins c.args.turns (log_of reported) reported
+    (g.W.Wire.log c.serve.new.wire)
     (g.K.Sink.taken c.args.log.now) (g.K.Sink.taken c.serve.new.log) (ended_by c.in-Err.stop) (reported_first reported)
-    (c.in-Err.ensures.serves none (frame_of (limits_in cache) contents) (log_of reported)
-    (loop_begins (g.W.Wire.events c.args.wire.now) (limits_in cache) contents c.new-proxy.result reported (g.W.Wire.stages c.args.wire.now)
+    (c.in-Err.ensures.serves none (frame_of (limits_in cache) (setting_of contents c.args.front)) (log_of reported)
+    (loop_begins (g.W.Wire.events c.args.wire.now) (limits_in cache) (setting_of contents c.args.front) c.new-proxy.result reported
+    (g.W.Wire.stages c.args.wire.now)
     c.requires.fresh c.requires.unseen
-    (λ log fresh. c.new-proxy.ensures.rests (frame_of (limits_in cache) contents) log
-    (unused_so (limits_in cache) contents cache c.args.last stocked refl zero c.requires.few) stocked.last_is fresh)
+    (λ log fresh. c.new-proxy.ensures.rests (frame_of (limits_in cache) (setting_of contents c.args.front)) log
+    (unused_so (limits_in cache) (setting_of contents c.args.front) cache c.args.last stocked refl zero c.requires.few) stocked.last_is refl fresh)
     (ap steps c.new-proxy.ensures.cache ∙ omega arith) c.new-proxy.ensures.written)))
 
 pub returns-in-Ok-clause-wire_calm : goal.returns-in-Ok-clause-wire_calm

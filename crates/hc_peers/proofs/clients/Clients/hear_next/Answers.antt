@@ -23,7 +23,7 @@ invariant_of-self-in-Ok-None c =
     let change = changed-hash k (Some w) s.rows now ((c.get_mut.follows.holds w).3 (search rules)) in
     let popped = changed-set k false s.ready c.pop_first.new.self c.in-Some.ensures.updates in
     let others = c.in-Ok-None.ensures.others in
-    let empty = none-left c.in-Some-get_mut.client.now w (rw c.in-Ok-None.field-0-is at c.in-Ok-None.ensures.reads) in
+    let empty = none-left c.args.front c.in-Some-get_mut.client.now w (rw c.in-Ok-None.field-0-is at c.in-Ok-None.ensures.reads) in
     record {
       alive = live-kept s.rows now k (Some w) change s.live s.live s.alive (ap (λ (x : Client). consumer_at (Some x)) others ∙ ap consumer_at was) (λ d. refl);
       due = ready-now s.rows now k (Some w) change s.ready c.pop_first.new.self s.due
@@ -139,8 +139,8 @@ returns-in_default-list_live c =
     let w = c.ask.new.self in
     let now = c.get_mut.follows.lender w in
     let change = changed-hash k (Some w) s.rows now ((c.get_mut.follows.holds w).3 (search rules)) in
-    let h = some-heard c.args.c k client c.read.new.self c.in-Ok-Some.wanted (rw c.in-Ok-Some.field-0-is at c.in-Ok-Some.ensures.reads) in
-    let is : Some w ≡ Some (hearing c.args.c (next_in 1 client.reader client.input) client) = ap Some (c.ask.ensures ∙ h.0) in
+    let h = some-heard c.args.c k c.args.front client c.read.new.self c.in-Ok-Some.asking (rw c.in-Ok-Some.field-0-is at c.in-Ok-Some.ensures.reads) in
+    let is : Some w ≡ Some (hearing c.args.c c.args.front (next_in 1 client.reader client.input) client) = ap Some (c.ask.ensures ∙ h.0) in
     somebody (record {
       k = k;
       rest = c.pop_first.new.self.keys;
@@ -160,8 +160,9 @@ returns-in_ok-refuse-in_default-e c =
     let w = c.refuse.new.self in
     let now = c.get_mut.follows.lender w in
     let change = changed-hash k (Some w) s.rows now ((c.get_mut.follows.holds w).3 (search rules)) in
-    let h = error-heard c.args.c k client c.read.new.self c.in-Err.e c.in_default-e.not-NoMemory c.in-Err.ensures.reads in
-    let is : Some w ≡ Some (hearing c.args.c (next_in 1 client.reader client.input) client) = ap Some (c.in_ok-refuse-in_default-e.ensures.ok ∙ h.0) in
+    let h = error-heard c.args.c k c.args.front client c.read.new.self c.in-Err.e c.in_default-e.not-NoMemory c.in-Err.ensures.reads in
+    let is : Some w ≡ Some (hearing c.args.c c.args.front (next_in 1 client.reader client.input) client) =
+    ap Some (c.in_ok-refuse-in_default-e.ensures.ok ∙ h.0) in
     somebody (record {
       k = k;
       rest = c.pop_first.new.self.keys;

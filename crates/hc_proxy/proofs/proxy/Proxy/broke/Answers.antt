@@ -3,7 +3,7 @@ use Rattle.hc_proxy.proofs.{Outcomes.{on_both}, GotBytes.{break_goes, some_cache
 use Rattle.hc_proxy.proofs.proxy.Proxy.broke.Goals as goal
 
 pub happen-requires-clause-stands : goal.happen-requires-clause-stands
-happen-requires-clause-stands g c = some_cache c.args.self.now c.args.k c.args.self.now refl refl refl refl c.requires.at
+happen-requires-clause-stands g c = some_cache c.args.self.now c.args.k c.args.self.now refl refl refl refl refl c.requires.at
 
 pub happen-requires-clause-spelled : goal.happen-requires-clause-spelled
 happen-requires-clause-spelled g c = small_exchange c.args.self.now c.args.k c.requires.at c.requires.few c.in-Some.x c.in-Some.ensures.some

@@ -5,7 +5,7 @@ use Rattle.hc_proxy.proofs.{GotBytes.{some_cache, small_bytes, small_consumer}, 
 use Rattle.hc_proxy.proofs.proxy.Proxy.client_leaves.Goals as goal
 
 pub happen-requires-clause-stands : goal.happen-requires-clause-stands
-happen-requires-clause-stands g c = some_cache c.args.self.now c.args.k _ refl refl refl refl c.requires.at
+happen-requires-clause-stands g c = some_cache c.args.self.now c.args.k _ refl refl refl refl refl c.requires.at
 
 pub happen-requires-clause-spelled : goal.happen-requires-clause-spelled
 happen-requires-clause-spelled g c =
@@ -16,7 +16,7 @@ pub happen-requires-clause-small : goal.happen-requires-clause-small
 happen-requires-clause-small g c = small_bytes c.args.self.now c.args.k c.requires.at
 
 pub returns-clause-goes : goal.returns-clause-goes
-returns-clause-goes g c = λ t p h none. elim c.match-client-2.branch [
+returns-clause-goes g c = λ t p h none. elim c.match-client-3.branch [
   | in-Some-consumer+in_ok-happen w ↦ subst (λ x. Goes (KeepsQuiet t) (faults_in c.args.self.now.cache) x (client_leaves t.frame.limits c.args.k p))
       (sym w.self-is)
       (leave_by t c.args.self.now p c.args.k h none c.leave.new.self c.leave.ensures.gone c.in-Some.client w.in-Some-consumer.c

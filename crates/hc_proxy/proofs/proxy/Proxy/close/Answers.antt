@@ -9,20 +9,20 @@ unreachable-requires g c =
     (λ none. (c.take.ensures.none none).0) c.in-Err.is)
 
 pub fail-requires-clause-stands : goal.fail-requires-clause-stands
-fail-requires-clause-stands g c = here_stands c.args.x c.args.self.now _ refl refl refl refl c.requires.at
+fail-requires-clause-stands g c = here_stands c.args.x c.args.self.now _ refl refl refl refl refl c.requires.at
 
 pub fail-requires-clause-small : goal.fail-requires-clause-small
 fail-requires-clause-small g c = here_small c.args.x c.args.self.now c.requires.at c.requires.few
 
 pub happen-requires-clause-stands : goal.happen-requires-clause-stands
-happen-requires-clause-stands g c = here_stands c.args.x c.args.self.now _ refl refl refl refl c.requires.at
+happen-requires-clause-stands g c = here_stands c.args.x c.args.self.now _ refl refl refl refl refl c.requires.at
 
 pub happen-requires-clause-spelled : goal.happen-requires-clause-spelled
 happen-requires-clause-spelled g c = here_small c.args.x c.args.self.now c.requires.at c.requires.few
 
 pub happen-requires-clause-small : goal.happen-requires-clause-small
 happen-requires-clause-small g c =
-    few_bytes c.args.self.now (here_stands c.args.x c.args.self.now c.args.self.now refl refl refl refl c.requires.at) 0 (omega arith)
+    few_bytes c.args.self.now (here_stands c.args.x c.args.self.now c.args.self.now refl refl refl refl refl c.requires.at) 0 (omega arith)
 
 pub returns-then-not-finish-clause-goes : goal.returns-then-not-finish-clause-goes
 returns-then-not-finish-clause-goes g c = λ t p h on ended.

@@ -19,7 +19,7 @@ returns-then-not-has_ended-clause-goes g c = λ t p h.
     unended_finished c.args.x t x p h (open_is t.frame x p h.cache c.args.x c.is_open.result c.is_open.ensures ∙ said) (sym c.has_ended.ensures ∙ unended)
 
 pub fail-requires-clause-stands : goal.fail-requires-clause-stands
-fail-requires-clause-stands g c = may_stands 1 c.args.x c.args.self.now _ refl refl refl refl c.requires.may
+fail-requires-clause-stands g c = may_stands 1 c.args.x c.args.self.now _ refl refl refl refl refl c.requires.may
 
 pub fail-requires-clause-few : goal.fail-requires-clause-few
 fail-requires-clause-few g c =

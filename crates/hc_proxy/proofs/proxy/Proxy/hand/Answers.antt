@@ -35,7 +35,7 @@ pub fail_by-requires : goal.fail_by-requires
 fail_by-requires g c =
     let said : c.is_wanted.result ≡ true = search (rules, c.if-not-is_wanted.false) in
     record {
-      stands = may_stands 2 c.args.x c.args.self.now _ refl refl refl refl c.requires.may;
+      stands = may_stands 2 c.args.x c.args.self.now _ refl refl refl refl refl c.requires.may;
       small = hand_small c.args.x c.args.self.now (λ t p h. sym (c.is_wanted.ensures t.frame p h.cache) ∙ said) c.requires.may;
       few = (let few = hand_few c.args.x c.args.self.now (λ t p h. sym (c.is_wanted.ensures t.frame p h.cache) ∙ said) c.requires.may in omega arith);
     }

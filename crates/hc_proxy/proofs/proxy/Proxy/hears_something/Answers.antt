@@ -9,7 +9,7 @@ returns-then-branch-clause-answers g c f p log r =
     let k0 = c.index-x.result.now in
     some_heard f x p log r k0
     (sym (brings_same f x p log r k0)
-    ∙ (sym (c.in_ok-hears.ensures f p (cache_moves f x (record x { round = c.list_news.new.to }) p refl refl refl refl r.cache)) ∙ c.if-branch.true))
+    ∙ (sym (c.in_ok-hears.ensures f p (cache_moves f x (record x { round = c.list_news.new.to }) p refl refl refl refl refl r.cache)) ∙ c.if-branch.true))
 
 pub loop-i-preserved : goal.loop-i-preserved
 loop-i-preserved g c f p log r y there =
@@ -23,7 +23,7 @@ loop-i-preserved g c f p log r y there =
     ap (λ (m : ℕ). take c.loop-i.i r0 ++ m ∷ []) (sym at) in
     let off : brings p k0 ≡ false =
     sym (brings_same f x p log r k0)
-    ∙ (sym (c.in_ok-hears.ensures f p (cache_moves f x (record x { round = c.list_news.new.to }) p refl refl refl refl r.cache)) ∙ c.if-branch.false) in
+    ∙ (sym (c.in_ok-hears.ensures f p (cache_moves f x (record x { round = c.list_news.new.to }) p refl refl refl refl refl r.cache)) ∙ c.if-branch.false) in
     none_more (brings p) (take c.loop-i.i r0) k0 (c.loop-i.invariant f p log r) off y (ap (among y) (sym more) ∙ there)
 
 pub returns-clause-answers : goal.returns-clause-answers

@@ -39,4 +39,4 @@ returns-clause-polled g c f p h =
 pub returns-clause-rest : goal.returns-clause-rest
 returns-clause-rest g c =
     let r = c.in_ok-first.ensures.rest in
-    record { now = r.now; starts = r.starts; clients = r.clients; upstreams = r.upstreams; closed = r.closed; round = r.round }
+    record { now = r.now; starts = r.starts; front = r.front; clients = r.clients; upstreams = r.upstreams; closed = r.closed; round = r.round }

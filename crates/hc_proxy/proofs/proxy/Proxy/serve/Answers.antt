@@ -6,7 +6,7 @@ use Rattle.hc_proxy.proofs.proxy.Proxy.serve.Goals as goal
 
 pub loop-turn-init : goal.loop-turn-init
 loop-turn-init g c = (
-  ∥∥₁_map c.requires.begins (λ s. (s.0, unused s.0.contents, s.1, s.2.still, first_waits s.0.limits s.0.contents)),
+  ∥∥₁_map c.requires.begins (λ s. (s.0, unused s.0.setting, s.1, s.2.still, first_waits s.0.limits s.0.setting)),
   λ none f before b. turning_begins (g.W.Wire.events c.args.wire.now) f c.args.self.now before (g.W.Wire.log c.args.wire.now)
       (g.W.Wire.stages c.args.wire.now) (g.K.Sink.taken c.args.log.now) b,
   refl,
@@ -24,7 +24,7 @@ loop-turn-preserved g c = (
       (to.f', to.p', to.log', to.still, to.again_is ∙ ap (λ l. waits l to.p') (sym to.limits))),
   λ none f before b.
       let t = c.loop-turn.invariant.1 none f before b in
-      turning_on (g.W.Wire.events c.loop-turn.wire) c.loop-turn._turn f.limits f.contents before c.loop-turn.self (g.W.Wire.log c.loop-turn.wire)
+      turning_on (g.W.Wire.events c.loop-turn.wire) c.loop-turn._turn f.limits f.setting before c.loop-turn.self (g.W.Wire.log c.loop-turn.wire)
       (g.W.Wire.stages c.loop-turn.wire) (g.K.Sink.taken c.args.log.now) (g.K.Sink.taken c.loop-turn.log) c.loop-turn.wait t
       (g.W.Wire.events c.turn.new.wire) c.turn.new.self (g.W.Wire.log c.turn.new.wire) (g.W.Wire.stages c.turn.new.wire) (g.K.Sink.taken c.turn.new.log) _
       (c.in_ok-wait.ensures.ok t.f t.p t.log t.still t.wait_is) (none _ _),
@@ -38,7 +38,7 @@ loop-turn-preserved g c = (
 pub returns-in_err-wait-clause-serves : goal.returns-in_err-wait-clause-serves
 returns-in_err-wait-clause-serves g c = λ none f before b.
     let t = c.loop-turn.invariant.1 none f before b in
-    turning_stops (g.W.Wire.events c.loop-turn.wire) c.loop-turn._turn f.limits f.contents before c.loop-turn.self (g.W.Wire.log c.loop-turn.wire)
+    turning_stops (g.W.Wire.events c.loop-turn.wire) c.loop-turn._turn f.limits f.setting before c.loop-turn.self (g.W.Wire.log c.loop-turn.wire)
     (g.W.Wire.stages c.loop-turn.wire) (g.K.Sink.taken c.args.log.now) (g.K.Sink.taken c.loop-turn.log) c.loop-turn.wait t
     c.args.turns c.turn.new.self (g.W.Wire.log c.turn.new.wire) (g.K.Sink.taken c.turn.new.log) _ c.from_residual.result c.from_residual.ensures.1
     c.loop-turn-test.true
@@ -58,7 +58,7 @@ returns-in_err-wait-clause-causes g c =
 pub returns-in_err-leave-clause-serves : goal.returns-in_err-leave-clause-serves
 returns-in_err-leave-clause-serves g c = λ none f before b.
     let t = c.loop-turn.invariant.1 none f before b in
-    turning_wants (g.W.Wire.events c.loop-turn.wire) c.loop-turn._turn f.limits f.contents before c.loop-turn.self (g.W.Wire.log c.loop-turn.wire)
+    turning_wants (g.W.Wire.events c.loop-turn.wire) c.loop-turn._turn f.limits f.setting before c.loop-turn.self (g.W.Wire.log c.loop-turn.wire)
     (g.W.Wire.stages c.loop-turn.wire) (g.K.Sink.taken c.args.log.now) (g.K.Sink.taken c.loop-turn.log) c.loop-turn.wait t
     c.args.turns (g.W.Wire.log c.leave.new.wire) _ c.from_residual-in_err-leave.result c.from_residual-in_err-leave.ensures.1 c.loop-turn.invariant.4
     c.in_err-leave.ensures.err
@@ -76,9 +76,9 @@ returns-clause-serves g c = λ none f before b.
     let all : c.loop-turn._turn ≡ c.args.turns =
     (let le : c.loop-turn._turn ≤ c.args.turns = c.loop-turn.invariant.4 in let over : c.args.turns ≤ c.loop-turn._turn = c.loop-turn-test.false in
     omega arith) in
-    subst (λ (k : ℕ). EndsBy f.limits f.contents k before (g.W.Wire.log c.leave.new.wire) (g.K.Sink.taken c.args.log.now) (g.K.Sink.taken c.loop-turn.log)
+    subst (λ (k : ℕ). EndsBy f.limits f.setting k before (g.W.Wire.log c.leave.new.wire) (g.K.Sink.taken c.args.log.now) (g.K.Sink.taken c.loop-turn.log)
     ended.Done) all
-    (turning_ends (g.W.Wire.events c.loop-turn.wire) c.loop-turn._turn f.limits f.contents before c.loop-turn.self (g.W.Wire.log c.loop-turn.wire)
+    (turning_ends (g.W.Wire.events c.loop-turn.wire) c.loop-turn._turn f.limits f.setting before c.loop-turn.self (g.W.Wire.log c.loop-turn.wire)
     (g.W.Wire.stages c.loop-turn.wire) (g.K.Sink.taken c.args.log.now) (g.K.Sink.taken c.loop-turn.log) c.loop-turn.wait t
     (g.W.Wire.log c.leave.new.wire) (c.in_ok-leave.ensures.ok t.f t.p t.log t.still.rests t.still.follows))
 

@@ -13,8 +13,8 @@ add-requires-clause-moment g c = ∥∥₁_elim c.requires.stands le_prop (λ s.
 pub add-requires-clause-later : goal.add-requires-clause-later
 add-requires-clause-later g c = ∥∥₁_elim c.requires.stands le_prop (λ s.
     let now : c.args.self.now.now ≡ s.1.moment = s.2.now in
-    let last : last_of c.args.self.now.record ≡ last_event s.1.contents.now s.1.history = s.2.recorded in
-    let before : last_event s.1.contents.now s.1.history ≤ s.1.moment = s.2.before in
+    let last : last_of c.args.self.now.record ≡ last_event s.1.setting.contents.now s.1.history = s.2.recorded in
+    let before : last_event s.1.setting.contents.now s.1.history ≤ s.1.moment = s.2.before in
     omega arith)
 
 pub step-requires-clause-later : goal.step-requires-clause-later
@@ -34,4 +34,4 @@ returns-clause-stepped g c f p h room =
     let done = c.in_ok-step.ensures in
     stepped_so f c.args.self.now _ c.args.event p h room c.requires.numbered c.requires.spelled done.answered done.moment done.received
     c.in_ok-add.ensures.text c.in_ok-add.ensures.last
-    (record { now = refl; starts = refl; clients = refl; upstreams = refl; closed = refl; round = refl })
+    (record { now = refl; starts = refl; front = refl; clients = refl; upstreams = refl; closed = refl; round = refl })

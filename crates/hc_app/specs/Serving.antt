@@ -1,5 +1,7 @@
 -- What came of the serving loop, by the status.
 use Rattle.std.specs.Prelude.{◌≡◌, ℕ, List, Option, Some}
+use Rattle.hc_model.specs.Entries.{no_contents}
+use Rattle.hc_proxy.specs.Recorded.{Records}
 use Rattle.hc_proxy.specs.Served.{ServesAs}
 use Rattle.hc_sched.specs.declared.schedule.Ended.{Ended}
 use Rattle.hc_sched.specs.declared.schedule.Ended.TheVariants as ended
@@ -17,12 +19,13 @@ pub data IsServedAs : Ended → Status → Type 0 where
   unwritten : IsServedAs ended.SinkFailed status.SinkFailed
   wanting : IsServedAs ended.NoMemory status.NoMemory
 
--- It listened at one address and dialled the other, and served for so many turns from an empty store, whose record went to the
--- output; or nothing could be bound.
+-- It listened at one address and dialled the other, and served for so many turns from an empty store. Its record went to the
+-- output, which is a schedule whatever the wire tells; or nothing could be bound.
 pub data ServesFrom (listen origin : Address) (turns : ℕ) (reported reported' : Option Log) (out out' : Option (List ℕ)) : Status → Type 0 where
   served : (s : Status) (bound : Option Log) (end : Ended) →
       Reports reported bound (with_binding (Some listen) (Some origin)) →
-      ServesAs store_limits turns bound reported' out out' end → IsServedAs end s →
+      ServesAs store_limits turns bound reported' out out' end →
+      Records store_limits no_contents out out' end → IsServedAs end s →
       ServesFrom listen origin turns reported reported' out out' s
   unbound : reported' ≡ reported → out' ≡ out → ServesFrom listen origin turns reported reported' out out' status.WireFailed
   wanting_all : reported' ≡ reported → out' ≡ out → ServesFrom listen origin turns reported reported' out out' status.NoMemory

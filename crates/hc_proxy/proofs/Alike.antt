@@ -40,6 +40,7 @@ module _ {B : Type 0} {g : Ghosts B} where
     bounded = h.bounded;
     room = h.room;
     targets = h.targets;
+    timed = h.timed;
   }
 
   -- other clients stand for the same cache
@@ -65,6 +66,7 @@ module _ {B : Type 0} {g : Ghosts B} where
     bounded = h.bounded;
     room = h.room;
     targets = h.targets;
+    timed = h.timed;
   }
 
   -- and so do other rows of connections to the origin, where their answers are read as the exchanges have them
@@ -91,6 +93,7 @@ module _ {B : Type 0} {g : Ghosts B} where
     bounded = h.bounded;
     room = h.room;
     targets = h.targets;
+    timed = h.timed;
   }
 
   -- CLIENTS

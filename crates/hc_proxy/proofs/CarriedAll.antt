@@ -159,6 +159,7 @@ module _ {B : Type 0} {g : Ghosts B} (t : Turn) (p : Proxy) (log : Log) where
         bounded = u.keeps.cache.bounded;
         room = u.keeps.cache.room;
         targets = u.keeps.cache.targets;
+        timed = u.keeps.cache.timed;
       };
       acts = empty;
       moved = u.keeps.moved;
@@ -246,6 +247,7 @@ module _ {B : Type 0} {g : Ghosts B} (t : Turn) (p : Proxy) (log : Log) (reporte
       bounded = k.keeps.cache.bounded;
       room = k.keeps.cache.room;
       targets = k.keeps.cache.targets;
+      timed = k.keeps.cache.timed;
     };
     moved = k.moved;
     clients = record { rows = k.keeps.clients.rows; order = k.keeps.clients.order; listed = k.keeps.clients.listed; few = k.keeps.clients.few };

@@ -360,6 +360,7 @@ module _ {B : Type 0} {g : Ghosts B} (t : Turn) (x : loop.Proxy B g) (up : Upstr
     bounded = h.cache.bounded;
     room = h.cache.room;
     targets = h.cache.targets;
+    timed = h.cache.timed;
   }
     where
       less : (z : ℕ) → unread_of (with y (opened request) p.upstream z) ≤ unread_of (p.upstream z)

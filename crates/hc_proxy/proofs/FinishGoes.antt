@@ -66,6 +66,7 @@ module _ {B : Type 0} {g : Ghosts B} (t : Turn) (q : Proxy) (y : loop.Proxy B g)
         bounded = c.bounded;
         room = c.room;
         targets = c.targets;
+        timed = c.timed;
       }
 
   pub written_keeps : KeepsPolled (writing t (text_of y.record)) y' q

@@ -109,6 +109,7 @@ module _ {B : Type 0} {g : Ghosts B} (f : Frame) (x : loop.Proxy B g) (log : Log
     bounded = u.bounded;
     room = u.room;
     targets = tt;
+    timed = tt;
   }
 
   first_upstreams : (call : Called) (stages : ℕ → Stage) →

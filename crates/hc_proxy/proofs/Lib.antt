@@ -32,6 +32,7 @@ mod HangsOff
 mod HungUp
 mod Texts
 mod StepOn
+mod Recorded
 mod OpensUp
 mod ClosedActs
 mod PlainActs

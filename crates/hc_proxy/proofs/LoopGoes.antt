@@ -4,12 +4,12 @@
 -- made goes on so. One that is cut short ends the loop; so does the closing of all connections behind the last turn,
 -- which sends nothing. That all was sent then is read off what rests behind the last turn (`client_sent`,
 -- `exchange_sent`).
-use Rattle.std.{proofs.{Common.{◌≡◌, ◌⊎◌, inl, inr, ◌≤◌, ◌<◌, ◌^◌, ℕ, ◌+◌, ◌-◌, List, [], ◌∷◌, ◌++◌, Bool, true, false, Option, Some, None, Ok, Err, refl, ap, sym, ◌∙◌, subst, arith, append-nil, take_all}, lemmas.{Bool.Decides.{nat_tests}, List.{length-drop}}}, specs.{Prelude.{◌&&◌, ◌||◌, not, nat_eq, nat_lt, find, filter, map, drop, length, option_map, IfSome, Result, IsErrAnd, if◌then◌else◌}, List.{list_all}}}
+use Rattle.std.{proofs.{Common.{◌≡◌, ◌⊎◌, inl, inr, ◌≤◌, ◌<◌, ◌^◌, ℕ, ◌+◌, ◌-◌, List, [], ◌∷◌, ◌++◌, Bool, true, false, Option, Some, None, Ok, Err, refl, ap, sym, ◌∙◌, subst, arith, append_assoc, append-nil, take_all}, lemmas.{Bool.Decides.{nat_tests}, List.{length-drop}}}, specs.{Prelude.{◌&&◌, ◌||◌, not, nat_eq, nat_lt, find, filter, map, drop, length, option_map, IfSome, Result, IsErrAnd, if◌then◌else◌}, List.{list_all}}}
 use Rattle.hc_text.proofs.Basics.{both_true as both_hold, or_left, or_right}
 use Rattle.hc_core.specs.{declared.cache.Cache.{Cache}, Steps.{steps, faults_in, limits_in, bytes_received}}
-use Rattle.hc_io.specs.Sink.{Takes}
+use Rattle.hc_io.specs.Sink.{Takes, TakesPrefix}
 use Rattle.hc_io.proofs.Takings.{takes_more as takes_both, takes_none}
-use Rattle.hc_effects.proofs.Vocabulary.{may_begin, is_open, tables, Limits}
+use Rattle.hc_effects.proofs.Vocabulary.{Contents, may_begin, is_open, tables, Limits}
 use Rattle.hc_peers.specs.{Clients.{client_of}, Upstreams.{upstream_of}}
 use Rattle.hc_peers.specs.declared.client.Client as peer
 use Rattle.hc_peers.specs.declared.upstream.Upstream as origin
@@ -19,17 +19,17 @@ use Rattle.hc_store.specs.declared.backend.Backend.{Ghosts}
 use Rattle.hc_wire.specs.{Events.{Stage, Unseen}, Logs.{Log, Taker, Called, empty_log, is_numbered, is_at_end, shut, standings_in, stage_from, stage_in, sent_in}}
 use Rattle.hc_wire.specs.declared.event.WireEvent.TheVariants as event
 use Rattle.hc_proxy.specs.declared.proxy.Proxy as loop
-use Rattle.hc_proxy.specs.{declared.stop.Stop.{Stop}, Connections.{dials_from, dials_in, connection_of, taken_at}, Endings.{IsLog, IsFresh, Serves, TakesTurns, was_sent}, Keeping.{Frame, IsStocked, IsUnused, HasUpstreams, IsUpstream, IsUpstreamAt}, Logging.{AreApart, short_from, is_short}, Loops.{AllFit}, Network.{open_exchanges, heard}, Records.{text_of}, Resting.{IsRestingClient, IsRestingAt, Rests}, Rows.{Client, Upstream, Proxy, unused, Setting}, Sending.{owed_by, is_taken, client_is_sent, taker_of, exchange_is_sent, all_is_sent}, Serving.{IsOfLoop, IsCutShort, IsStill, Begins, TurnsTo, TurnStops, EndsBy, IsClosed, all_closed}, Stops.{ended_as, ended_by}, Turns.{turned_by, behind_all, behind_calls, record_of}, Waiting.{waits}, Served.{ServesWith}}
+use Rattle.hc_proxy.specs.{declared.stop.Stop.{Stop}, Connections.{dials_from, dials_in, connection_of, taken_at}, Endings.{IsLog, IsFresh, Serves, TakesTurns, was_sent}, Keeping.{Frame, IsStocked, IsUnused, HasUpstreams, IsUpstream, IsUpstreamAt}, Logging.{AreApart, short_from, is_short}, Loops.{AllFit}, Network.{open_exchanges, heard}, Recorded.{HasSchedule, IsRecorded, Records}, Records.{text_of}, Resting.{IsRestingClient, IsRestingAt, Rests}, Rows.{Client, Upstream, Proxy, unused, Setting}, Sending.{owed_by, is_taken, client_is_sent, taker_of, exchange_is_sent, all_is_sent}, Serving.{IsOfLoop, IsCutShort, IsStill, Begins, TurnsTo, TurnStops, EndsBy, IsClosed, all_closed}, Stops.{ended_as, ended_by}, Turns.{turned_by, behind_all, behind_calls, record_of}, Waiting.{waits}, Served.{ServesWith}}
 use Rattle.hc_proxy.specs.declared.stop.Stop.TheVariants as stop
-use Rattle.hc_proxy.proofs.{Fitting.{all_reversed, opened_within}, Rows.{sent_all}, Stands.{loops_are_runs}, TakersStand.{open_taker, sent_found, taken_found}}
+use Rattle.hc_proxy.proofs.{FinishGoes.{takes_all}, Fitting.{all_reversed, opened_within}, Recorded.{schedule_of, recorded_of}, Rows.{sent_all}, Stands.{loops_are_runs}, TakersStand.{open_taker, sent_found, taken_found}}
 use Rattle.hc_state.proofs.LeftRows.{all_passing}
 
 -- WHAT A SINK TOOK
 
 -- all of the record was taken, and nothing is lacking of the last turn's
 whole_turns : (limits : Limits) (c : Setting) (log : Log) (out out' : Option (List ℕ)) → Takes out out' (record_of (behind_all limits c log)) →
-    TakesTurns limits c log out out'
-whole_turns limits c log out out' takes =
+    HasSchedule (behind_all limits c log) → TakesTurns limits c log out out'
+whole_turns limits c log out out' takes scheduled =
     let all : behind_calls limits c log (length log.calls) ≡ behind_all limits c log =
     ap (λ cs. turned_by limits (dials_from c log.dialled) cs (unused c)) (take_all (length log.calls) log.calls (omega arith)) in
     record {
@@ -37,6 +37,7 @@ whole_turns limits c log out out' takes =
       all_but_one = omega arith;
       between = out';
       earlier = subst (λ (p : Proxy). Takes out out' (record_of p)) (sym all) takes;
+      schedule = subst HasSchedule (sym all) scheduled;
       last = [];
       part = record { front = []; rest = []; whole = refl; takes = takes_none out' };
       record_is = ap record_of (sym all) ∙ sym (append-nil (record_of (behind_calls limits c log (length log.calls))));
@@ -142,6 +143,7 @@ module _ {B : Type 0} {g : Ghosts B} where
                 all_but_one = c'.all_but_one;
                 between = out';
                 earlier = subst (Takes out out') c'.written_is t.takes;
+                schedule = c'.schedule;
                 last = c'.text;
                 part = c'.takes;
                 record_is = c'.record_is ∙ ap (λ (z : List ℕ). z ++ c'.text) c'.written_is;
@@ -169,6 +171,9 @@ module _ {B : Type 0} {g : Ghosts B} where
     all_taken : Takes out out' (record_of (behind_all limits setting t.log))
     all_taken = subst (Takes out out') (sym record_so ∙ ap record_of tables_now) t.takes
 
+    all_scheduled : HasSchedule (behind_all limits setting t.log)
+    all_scheduled = subst HasSchedule tables_now (schedule_of t.f x t.p t.still.rests.cache)
+
     -- memory was refused behind the last turn
     pub turning_wants : (turns : ℕ) (reported' : Option Log) (P : Stop → Type 0) (result : Result (Unit {0}) Stop) → IsErrAnd result P → m ≤ turns →
         reported' ≡ reported → EndsBy limits setting turns before reported' out out' (ended_as result)
@@ -177,7 +182,7 @@ module _ {B : Type 0} {g : Ghosts B} where
       log' = t.log;
       reported_is = subst (λ (z : Option Log). (z ≡ None) ⊎ (z ≡ Some t.log)) (sym same) t.still.follows.reported_is;
       bound = t.bound;
-      serves = by_stop turns t.log out' e is_log_now (let b = t.calls in omega arith) (whole_turns limits setting t.log out out' all_taken);
+      serves = by_stop turns t.log out' e is_log_now (let b = t.calls in omega arith) (whole_turns limits setting t.log out out' all_taken all_scheduled);
     }
 
 -- ALL ARE CLOSED
@@ -350,8 +355,90 @@ module _ {B : Type 0} {g : Ghosts B} (n m : ℕ) (limits : Limits) (setting : Se
               dialled = subst (λ (r : Proxy). length (dials_in r t.log) ≡ r.tables.opened) same t.still.rests.opened;
               closed = shut_closed t.log.takers;
             })
-            (all_taken n m limits setting before x reported stages out out' wait t);
+            (all_taken n m limits setting before x reported stages out out' wait t)
+            (all_scheduled n m limits setting before x reported stages out out' wait t);
       }
+
+-- WHAT WAS WRITTEN, whatever the store counted
+
+pub record IsWriting {B : Type 0} {g : Ghosts B} (n : ℕ) (limits : Limits) (contents : Contents) (x : loop.Proxy B g) (reported : Option Log)
+    (stages : ℕ → Stage) (out out' : Option (List ℕ)) (wait : Bool) : Type 0 where
+  pub f : Frame
+  pub p : Proxy
+  pub log : Log
+  pub still : IsStill n f x p log reported stages
+  pub wait_is : wait ≡ waits f.limits p
+  pub limits_are : f.limits ≡ limits
+  pub contents_are : f.setting.contents ≡ contents
+  pub takes : Takes out out' f.written
+
+module _ {B : Type 0} {g : Ghosts B} where
+  pub writing_begins : (n : ℕ) (f : Frame) (x : loop.Proxy B g) (before : Log) (reported : Option Log) (stages : ℕ → Stage) (out : Option (List ℕ)) →
+      Begins n f x before reported stages → IsWriting n f.limits f.setting.contents x reported stages out out true
+  writing_begins n f x before reported stages out b = record {
+    f = f;
+    p = unused f.setting;
+    log = before;
+    still = b.still;
+    wait_is = first_waits f.limits f.setting;
+    limits_are = refl;
+    contents_are = refl;
+    takes = subst (Takes out out) (sym b.unwritten) (takes_none out);
+  }
+
+module _ {B : Type 0} {g : Ghosts B} (n : ℕ) (limits : Limits) (contents : Contents) (x : loop.Proxy B g) (reported : Option Log) (stages : ℕ → Stage)
+    (out out' : Option (List ℕ)) (wait : Bool) (w : IsWriting n limits contents x reported stages out out' wait) where
+  -- one more turn
+  pub writing_on : (n' : ℕ) (x' : loop.Proxy B g) (reported' : Option Log) (stages' : ℕ → Stage) (new : Option (List ℕ)) (again : Bool) →
+      TurnsTo n' w.f w.p w.log x x' reported' stages' out' new again → IsWriting n' limits contents x' reported' stages' out new again
+  writing_on n' x' reported' stages' new again to = record {
+    f = to.f';
+    p = to.p';
+    log = to.log';
+    still = to.still;
+    wait_is = to.again_is ∙ ap (λ l. waits l to.p') (sym to.limits);
+    limits_are = to.limits ∙ w.limits_are;
+    contents_are = ap (λ (s : Setting). s.contents) to.setting ∙ w.contents_are;
+    takes = subst (Takes out new) (sym to.written) (takes_both out out' new w.f.written to.text w.takes to.takes);
+  }
+
+  begun_with : (text : List ℕ) → IsRecorded w.f.limits w.f.setting.contents text → IsRecorded limits contents text
+  begun_with text is =
+      subst (λ (d : Contents). IsRecorded limits d text) w.contents_are (subst (λ (l : Limits). IsRecorded l w.f.setting.contents text) w.limits_are is)
+
+  written_whole : IsRecorded limits contents w.f.written
+  written_whole =
+      begun_with w.f.written
+      (subst (IsRecorded w.f.limits w.f.setting.contents)
+      (w.still.rests.cache.text ∙ (ap (λ (z : List ℕ). w.f.written ++ z) w.still.written ∙ append-nil w.f.written))
+      (recorded_of w.f x w.p w.still.rests.cache))
+
+  -- all turns were made
+  pub writing_ends : Records limits contents out out' ended.Done
+  writing_ends = (w.f.written, written_whole, w.takes)
+
+  by_end : (new : Option (List ℕ)) (e : Stop) (text : List ℕ) → IsRecorded limits contents text → TakesPrefix out new text →
+      Records limits contents out new (ended_by e)
+  by_end new stop.SinkFailed text is takes = (text, is, takes)
+  by_end new stop.WireFailed text is takes = (text, is, takes)
+  by_end new stop.NoMemory text is takes = (text, is, takes)
+
+  -- a turn was cut short
+  pub writing_stops : (x' : loop.Proxy B g) (reported' : Option Log) (new : Option (List ℕ)) (P : Stop → Type 0) (result : Result (Unit {0}) Stop) →
+      IsErrAnd result P → TurnStops w.f w.p w.log x x' reported' out' new → Records limits contents out new (ended_as result)
+  writing_stops x' reported' new P (Ok done) stops cut = absurd stops
+  writing_stops x' reported' new P (Err e) stops cut =
+      by_end new e (w.f.written ++ cut.text) (begun_with (w.f.written ++ cut.text) cut.recorded) (record {
+        front = w.f.written ++ cut.takes.front;
+        rest = cut.takes.rest;
+        whole = append_assoc w.f.written cut.takes.front cut.takes.rest ∙ ap (λ (z : List ℕ). w.f.written ++ z) cut.takes.whole;
+        takes = takes_both out out' new w.f.written cut.takes.front w.takes cut.takes.takes;
+      })
+
+  -- memory was refused behind the last turn
+  pub writing_wants : (P : Stop → Type 0) (result : Result (Unit {0}) Stop) → IsErrAnd result P → Records limits contents out out' (ended_as result)
+  writing_wants P (Ok done) stops = absurd stops
+  writing_wants P (Err e) stops = by_end out' e w.f.written written_whole (takes_all out out' w.f.written w.takes)
 
 -- BEFORE THE FIRST TURN
 

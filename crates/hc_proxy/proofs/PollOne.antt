@@ -55,6 +55,7 @@ module _ {B : Type 0} {g : Ghosts B} (f : Frame) (x x' : loop.Proxy B g) (c : â„
         bounded = s.cache.bounded;
         room = s.cache.room;
         targets = s.cache.targets;
+        timed = s.cache.timed;
       };
       later = s.later;
       same = s.same;

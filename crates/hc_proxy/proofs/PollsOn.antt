@@ -105,6 +105,7 @@ module _ {B : Type 0} {g : Ghosts B} where
               bounded = h.cache.bounded;
               room = h.cache.room;
               targets = h.cache.targets;
+              timed = h.cache.timed;
             };
             acts = h.acts;
             clients = record { rows = h.clients.rows; order = h.clients.order; listed = h.clients.listed; few = h.clients.few };

@@ -121,6 +121,7 @@ module _ {B : Type 0} {g : Ghosts B} where
           bounded = z.bounded;
           room = z.room;
           targets = z.targets;
+          timed = z.timed;
         },
       ))
 

@@ -358,6 +358,7 @@ module _ {B : Type 0} {g : Ghosts B} (t : Turn) (x : loop.Proxy B g) (p : Proxy)
             bounded = z.bounded;
             room = z.room;
             targets = z.targets;
+            timed = z.timed;
           }
 
       asked_clients : HasClients t mid asked

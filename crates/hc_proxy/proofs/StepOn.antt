@@ -4,7 +4,7 @@
 -- behind it. An entry opens the next exchange or none, of which nothing came: so no more bytes are unread than before.
 -- A start has a number that was given out. The record is that of the run, since the code writes the text of the event
 -- behind that of those before.
-use Rattle.std.{proofs.Common.{◌≡◌, ◌≤◌, ℕ, ◌+◌, Bool, true, false, List, ◌∷◌, ◌++◌, Option, Some, None, refl, ap, sym, ◌∙◌, subst, arith, append_assoc}, specs.Prelude.{if◌then◌else◌}}
+use Rattle.std.{proofs.Common.{◌≡◌, ◌≤◌, ◌<◌, ◌^◌, ℕ, ◌+◌, Bool, true, false, List, ◌∷◌, ◌++◌, Option, Some, None, refl, ap, sym, ◌∙◌, subst, arith, append_assoc}, specs.Prelude.{if◌then◌else◌}}
 use Rattle.hc_core.specs.Steps.{StandsFor, Steps, faults_in, last_moment, limits_in, bytes_received}
 use Rattle.hc_effects.proofs.Vocabulary.{act_list, Opening, opening_in, is_denied, IsEventWithinLimits, Event, Entry, may_begin, flaw_in, failures_in, Lawful, Tables, IsRun, IsOwed, owed, tables, after, after_accepted, after_denied, opened_after, last_start_after, received_in, HasTarget, Limits}
 use Rattle.hc_event.specs.declared.event.Event.TheVariants as event
@@ -14,7 +14,7 @@ use Rattle.hc_sched.specs.Schedule.{IsEvent, timed_text}
 use Rattle.hc_store.specs.declared.backend.Backend.{Ghosts}
 use Rattle.hc_proxy.specs.declared.proxy.Proxy as loop
 use Rattle.hc_proxy.specs.{Invariants.{unread, last_event}, Keeping.{Frame, HasCache, IsNumbered, Stepped, RestStays}, Records.{text_of, last_of}, Rows.{Proxy}, Steps.{with_entry}, Turns.{record_of}}
-use Rattle.hc_proxy.proofs.{HeadsStay.{headed_on}, OpenAfter.{OpensIt}, Stands.{Stands, is_sound, grows_by}, Texts.{record_more}, Unread.{unread_entry}}
+use Rattle.hc_proxy.proofs.{HeadsStay.{headed_on}, OpenAfter.{OpensIt}, Stands.{Stands, is_sound, grows_by}, Texts.{record_more, timed_one_more}, Unread.{unread_entry}}
 
 -- AN EVENT THAT HAS A SPELLING is within limits
 
@@ -188,6 +188,9 @@ module _ {B : Type 0} {g : Ghosts B} where
         bounded = h.bounded;
         room = h.room;
         targets = (h.targets, target_of ev spelled);
+        timed = timed_one_more p.setting.contents.now entry p.history h.timed spelled
+            (let early : p.moment < 2 ^ 62 = h.early in let now : x.now ≡ p.moment = h.now in omega arith)
+            (let before : last_event p.setting.contents.now p.history ≤ p.moment = h.before in let now : x.now ≡ p.moment = h.now in omega arith);
       }
 
       faultless : faults_in x'.cache ≡ faults_in x.cache → entry ≡ owed f.limits p.tables p.moment ev

@@ -112,6 +112,7 @@ module _ {B : Type 0} {g : Ghosts B} (n : ℕ) (f : Frame) (x : loop.Proxy B g) 
     room = r.cache.room;
     headed = r.cache.headed;
     targets = r.cache.targets;
+    timed = r.cache.timed;
   }
 
   -- CLIENTS

@@ -13,8 +13,8 @@ use Rattle.hc_sched.specs.Schedule.{timed_text}
 use Rattle.hc_wire.specs.{Events.{Stage, Unseen, IsOfOpen, FitsIn, stages_after, got_bytes}, Logs.{Log, Called, Reports, is_numbered, stage_from, with_call}, declared.event.WireEvent.{WireEvent}}
 use Rattle.hc_wire.specs.declared.event.WireEvent.TheVariants as event
 use Rattle.hc_proxy.specs.declared.proxy.Proxy as loop
-use Rattle.hc_proxy.specs.{declared.stop.Stop.{Stop}, Carrying.{acts_in, carried}, Connections.{dials_from, dials_in}, Endings.{SentOn, was_sent}, Handling.{begun}, Invariants.{AreServed, last_event}, Keeping.{Frame, Turn, Begun, KeepsPolled, Goes}, Loops.{Fits, AllFit}, Records.{text_of}, Rows.{Proxy, unused, Setting}, Serving.{IsOfLoop, IsCutShort, IsStill, FinishesTurn, CutsTurn, TurnsTo, TurnStops}, Turns.{so_far, happened, turned, turned_by, behind_all, behind_calls, record_of, timed_of, text_behind}, Underway.{OnWire, IsPolledOn}, Waiting.{waits}}
-use Rattle.hc_proxy.proofs.{Fitting.{dialled_all, fits_now}, Folds.{turned_more, fit_more}, Later.{carried_is_same, record_carried}, LetGo.{AreGone, turns_gone, unused_gone}, Marked.{contained_among}, MoreConnections.{dials_more}, MoreDials.{turn_same, turns_same, fits_same, all_fit}, Openings.{StandsKnown, unused_known, turns_know}, Parts.{turn_part}, SentStill.{sent_still}, ServedTurn.{WellHeld, happened_served}, SkippedSteps.{among}, Stands.{turn_goes, unused_stands}, StepOn.{stands_of, begins_of}, Texts.{record_more}}
+use Rattle.hc_proxy.specs.{declared.stop.Stop.{Stop}, Carrying.{acts_in, carried}, Connections.{dials_from, dials_in}, Endings.{SentOn, was_sent}, Handling.{begun}, Invariants.{AreServed, last_event}, Keeping.{Frame, Turn, Begun, KeepsPolled, Goes}, Loops.{Fits, AllFit}, Recorded.{HasSchedule, IsRecorded}, Records.{text_of}, Rows.{Proxy, unused, Setting}, Serving.{IsOfLoop, IsCutShort, IsStill, FinishesTurn, CutsTurn, TurnsTo, TurnStops}, Turns.{so_far, happened, turned, turned_by, behind_all, behind_calls, record_of, timed_of, text_behind}, Underway.{OnWire, IsPolledOn}, Waiting.{waits}}
+use Rattle.hc_proxy.proofs.{Fitting.{dialled_all, fits_now}, Folds.{turned_more, fit_more}, Later.{carried_is_same, record_carried}, LetGo.{AreGone, turns_gone, unused_gone}, Marked.{contained_among}, MoreConnections.{dials_more}, MoreDials.{turn_same, turns_same, fits_same, all_fit}, Openings.{StandsKnown, unused_known, turns_know}, Parts.{turn_part}, Recorded.{schedule_of, recorded_of}, SentStill.{sent_still}, ServedTurn.{WellHeld, happened_served}, SkippedSteps.{among}, Stands.{turn_goes, unused_stands}, StepOn.{stands_of, begins_of}, Texts.{record_more}}
 use Rattle.hc_proxy.proofs.TurnBegins as begins
 use Rattle.hc_peers.proofs.Outcomes.{err-map, if_ok-map}
 
@@ -86,7 +86,7 @@ module _ {B : Type 0} {g : Ghosts B} (n : ℕ) (f : Frame) (x : loop.Proxy B g) 
     (s : IsStill n f x p log reported stages) where
   -- the store may have begun so
   may_so : may_begin f.limits f.setting.contents ≡ true
-  may_so = subst (λ (d : Setting). may_begin f.limits d ≡ true) s.rests.cache.setting (begins_of f x p s.rests.cache)
+  may_so = subst (λ (d : Setting). may_begin f.limits d.contents ≡ true) s.rests.cache.setting (begins_of f x p s.rests.cache)
 
   -- each exchange has its place among the dials
   dials_so_far : dials_in p log ≡ dials_from f.setting log.dialled
@@ -99,6 +99,14 @@ module _ {B : Type 0} {g : Ghosts B} (n : ℕ) (f : Frame) (x : loop.Proxy B g) 
   written_so : f.written ≡ record_of p
   written_so = sym (s.rests.cache.text ∙ (ap (λ (z : List ℕ). f.written ++ z) s.written ∙ append-nil f.written))
 
+  -- and a schedule, as are the events behind it
+  schedule_so : HasSchedule p
+  schedule_so = schedule_of f x p s.rests.cache
+
+  recorded_so : IsRecorded f.limits f.setting.contents (f.written ++ [])
+  recorded_so = subst (IsRecorded f.limits f.setting.contents) (s.rests.cache.text ∙ ap (λ (z : List ℕ). f.written ++ z) s.written)
+      (recorded_of f x p s.rests.cache)
+
   -- the next call fails
   pub stops_before : (reported' : Option Log) → reported' ≡ reported → (out : Option (List ℕ)) → TurnStops f p log x x reported' out out
   stops_before reported' same out = record {
@@ -106,6 +114,9 @@ module _ {B : Type 0} {g : Ghosts B} (n : ℕ) (f : Frame) (x : loop.Proxy B g) 
     reported_is = subst (λ (z : Option Log). (z ≡ None) ⊎ (z ≡ Some log)) (sym same) s.follows.reported_is;
     bound = refl;
     calls = omega arith;
+    text = [];
+    takes = record { front = []; rest = []; whole = refl; takes = takes_none out };
+    recorded = recorded_so;
     goes = λ none l. record {
       is_log = record {
         fit = l.fit;
@@ -117,6 +128,9 @@ module _ {B : Type 0} {g : Ghosts B} (n : ℕ) (f : Frame) (x : loop.Proxy B g) 
       written_is = written_so ∙
           ap record_of (l.tables ∙
           sym (ap (λ cs. turned_by f.limits (dials_from f.setting log.dialled) cs (unused f.setting)) (take_all (length log.calls) log.calls (omega arith))));
+      schedule = subst HasSchedule (l.tables ∙
+          sym (ap (λ cs. turned_by f.limits (dials_from f.setting log.dialled) cs (unused f.setting)) (take_all (length log.calls) log.calls (omega arith))))
+          schedule_so;
       text = [];
       takes = record { front = []; rest = []; whole = refl; takes = takes_none out };
       record_is = ap record_of (sym l.tables) ∙ (s.rests.cache.text ∙ ap (λ (z : List ℕ). f.written ++ z) s.written);
@@ -243,11 +257,13 @@ module _ {B : Type 0} {g : Ghosts B} (n : ℕ) (f : Frame) (x : loop.Proxy B g) 
           all_but_one = let is = length-append log.calls (call ∷ []) in omega arith;
           written_is = written_now ∙
               ap record_of (sym (before_on f.limits f.setting may log p call l enough call_fits [] log' refl (sym (append-nil log.dialled))));
+          schedule = subst HasSchedule (sym (before_on f.limits f.setting may log p call l enough call_fits [] log' refl (sym (append-nil log.dialled))))
+              (schedule_so n f x p log reported stages s);
           text = more.0;
           takes = record { front = []; rest = more.0; whole = refl; takes = takes_none out };
           record_is =
               ap record_of is
-              ∙ (ap (λ (d : Setting). text_behind d.now (map timed_of (reverse q.history))) turn_on.setting
+              ∙ (ap (λ (d : Setting). text_behind d.contents.now (map timed_of (reverse q.history))) turn_on.setting
               ∙ (ap (λ (h : History). text_behind p.setting.contents.now (map timed_of (reverse h))) part.first
               ∙ (more.1 ∙ ap (λ (z : List ℕ). z ++ more.0) (s.rests.cache.text ∙ (ap (λ (z : List ℕ). f.written ++ z) s.written ∙ append-nil f.written)))));
         }
@@ -259,6 +275,9 @@ module _ {B : Type 0} {g : Ghosts B} (n : ℕ) (f : Frame) (x : loop.Proxy B g) 
     reported_is = on_wire.follows.reported_is;
     bound = refl;
     calls = let is = length-append log.calls (call ∷ []) in omega arith;
+    text = [];
+    takes = record { front = []; rest = []; whole = refl; takes = takes_none out };
+    recorded = recorded_so n f x p log reported stages s;
     goes = λ none l. cut_early l out;
   }
 
@@ -292,6 +311,9 @@ module _ {B : Type 0} {g : Ghosts B} (n : ℕ) (f : Frame) (x : loop.Proxy B g) 
       reported_is = c.reported_is;
       bound = c.bound;
       calls = let is = calls_on c.log' c.calls in omega arith;
+      text = text_of y.record;
+      takes = c.takes;
+      recorded = subst (IsRecorded f.limits f.setting.contents) goes.keeps.keeps.cache.text (recorded_of turn.frame y goes.q goes.keeps.keeps.cache);
       goes = λ none l. by_loop (ap faults_in (sym cache) ∙ none) l;
     }
       where
@@ -313,6 +335,8 @@ module _ {B : Type 0} {g : Ghosts B} (n : ℕ) (f : Frame) (x : loop.Proxy B g) 
               turns = length log.calls;
               all_but_one = let is = calls_on c.log' c.calls in omega arith;
               written_is = written_now ∙ ap record_of (sym (before_on f.limits f.setting may log p call l enough call_fits c.more c.log' c.calls c.dialled));
+              schedule = subst HasSchedule (sym (before_on f.limits f.setting may log p call l enough call_fits c.more c.log' c.calls c.dialled))
+                  (schedule_so n f x p log reported stages s);
               text = text_of y.record;
               takes = c.takes;
               record_is = ap record_of is ∙ (record_carried goes.q ∙ goes.keeps.keeps.cache.text);

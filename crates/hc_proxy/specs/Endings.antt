@@ -8,6 +8,7 @@ use Rattle.hc_sched.specs.declared.schedule.Ended.TheVariants as ended
 use Rattle.hc_wire.specs.Logs.{Log, Taker}
 use Rattle.hc_proxy.specs.Connections.{exchange_of, dials_from, dials_in}
 use Rattle.hc_proxy.specs.Loops.{AllFit}
+use Rattle.hc_proxy.specs.Recorded.{HasSchedule}
 use Rattle.hc_proxy.specs.Rows.{Client, Upstream, Proxy, Setting, unused}
 use Rattle.hc_proxy.specs.Sending.{all_is_sent}
 use Rattle.hc_proxy.specs.Turns.{behind_all, behind_calls, record_of}
@@ -62,12 +63,13 @@ pub record IsFinished (log : Log) (p : Proxy) : Type 0 where
 
 -- HOW IT ENDS
 
--- The record of all turns but the last was taken whole, and then some first part of the record of the last.
+-- The record of all turns but the last was taken whole, which is a schedule, and then some first part of that of the last.
 pub record TakesTurns (limits : Limits) (setting : Setting) (log : Log) (out out' : Option (List ℕ)) : Type 0 where
   pub turns : ℕ
   pub all_but_one : length log.calls ≤ turns + 1
   pub between : Option (List ℕ)
   pub earlier : Takes out between (record_of (behind_calls limits setting log turns))
+  pub schedule : HasSchedule (behind_calls limits setting log turns)
   pub last : List ℕ
   pub part : TakesPrefix between out' last
   pub record_is : record_of (behind_all limits setting log)
@@ -75,9 +77,10 @@ pub record TakesTurns (limits : Limits) (setting : Setting) (log : Log) (out out
 
 pub data Serves (limits : Limits) (setting : Setting) (turns : ℕ) (log : Log) (out out' : Option (List ℕ))
     : Ended → Type 0 where
-  -- so many turns were made, and their record was taken
+  -- so many turns were made, and their record was taken, which is a schedule
   done : IsLog limits setting log → length log.calls ≡ turns → IsFinished log (behind_all limits setting log) →
       Takes out out' (record_of (behind_all limits setting log)) →
+      HasSchedule (behind_all limits setting log) →
       Serves limits setting turns log out out' ended.Done
   -- no more than so many were, and the last may be cut short: of its record alone something may be lacking
   unwired : IsLog limits setting log → length log.calls ≤ turns → TakesTurns limits setting log out out' →

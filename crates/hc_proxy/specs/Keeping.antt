@@ -24,6 +24,7 @@ use Rattle.hc_peers.specs.Upstreams.{upstream_of, is_news, is_touched, Becomes, 
 use Rattle.hc_peers.specs.declared.client.Client as peer
 use Rattle.hc_peers.specs.declared.upstream.Upstream as origin
 use Rattle.hc_rules.specs.declared.room.Limits.{Limits}
+use Rattle.hc_sched.specs.Laws.{AreTimed}
 use Rattle.hc_store.specs.declared.backend.Backend.{Ghosts}
 use Rattle.hc_wire.specs.Events.{Stage, Unseen, Open, IsOpen, IsOfOpen, stages_after, got_bytes}
 use Rattle.hc_wire.specs.declared.event.WireEvent.{WireEvent}
@@ -37,7 +38,7 @@ use Rattle.hc_proxy.specs.Invariants.{is_quiet, HasConsumers, is_due, NamesOne, 
 use Rattle.hc_proxy.specs.Records.{text_of, last_of}
 use Rattle.hc_proxy.specs.Rows.{Client, Upstream, Proxy, Setting}
 use Rattle.hc_proxy.specs.Steps.{with_entry}
-use Rattle.hc_proxy.specs.Turns.{record_of}
+use Rattle.hc_proxy.specs.Turns.{events_of, record_of}
 use Rattle.hc_proxy.specs.Waiting.{pends, is_waiting}
 
 -- What stays as it is within a turn: the limits of the store, what the loop began with, the record that was written, and how
@@ -94,6 +95,7 @@ module _ {B : Type 0} {g : Ghosts B} where
     pub bounded : f.bytes ≤ 2 ^ 60
     pub room : p.setting.contents.last_consumer < 2 ^ 61
     pub targets : StartsHaveTargets p.history
+    pub timed : AreTimed p.setting.contents.now (events_of p)
 
   -- the acts are those of the turn
   abbrev pub HasActs : loop.Proxy B g → Proxy → Type 0

@@ -18,6 +18,7 @@ pub mod Laws
 pub mod Sentences
 pub mod Asked
 pub mod Received
+pub mod Recorded
 pub mod Ended
 pub mod Rendered
 pub mod Invariants

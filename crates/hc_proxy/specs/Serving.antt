@@ -19,6 +19,7 @@ use Rattle.hc_proxy.specs.Connections.{dials_from, dials_in}
 use Rattle.hc_proxy.specs.Keeping.{Frame, Turn}
 use Rattle.hc_proxy.specs.Logging.{Follows}
 use Rattle.hc_proxy.specs.Loops.{AllFit}
+use Rattle.hc_proxy.specs.Recorded.{HasSchedule, IsRecorded}
 use Rattle.hc_proxy.specs.Records.{text_of}
 use Rattle.hc_proxy.specs.Resting.{Rests, IsWithin}
 use Rattle.hc_proxy.specs.Rows.{Proxy, Setting, unused}
@@ -40,6 +41,7 @@ pub record IsCutShort (limits : Limits) (setting : Setting) (log : Log) (written
   pub turns : ℕ
   pub all_but_one : length log.calls ≤ turns + 1
   pub written_is : written ≡ record_of (behind_calls limits setting log turns)
+  pub schedule : HasSchedule (behind_calls limits setting log turns)
   pub text : List ℕ
   pub takes : TakesPrefix out out' text
   pub record_is : record_of (behind_all limits setting log) ≡ written ++ text
@@ -132,12 +134,15 @@ module _ {B : Type 0} {g : Ghosts B} where
     pub calls : length log'.calls ≡ length log.calls + 1
     pub goes : faults_in x'.cache ≡ faults_in x.cache → IsOfLoop f.limits f.setting log p → IsOfLoop f.limits f.setting log' p'
 
-  -- It was cut short.
+  -- It was cut short. What was written since it began goes on with the record as a schedule.
   pub record TurnStops (f : Frame) (p : Proxy) (log : Log) (x x' : loop.Proxy B g) (reported : Option Log) (out out' : Option (List ℕ)) : Type 0 where
     pub log' : Log
     pub reported_is : (reported ≡ None) ⊎ (reported ≡ Some log')
     pub bound : log'.bound ≡ log.bound
     pub calls : length log'.calls ≤ length log.calls + 1
+    pub text : List ℕ
+    pub takes : TakesPrefix out out' text
+    pub recorded : IsRecorded f.limits f.setting.contents (f.written ++ text)
     pub goes : faults_in x'.cache ≡ faults_in x.cache → IsOfLoop f.limits f.setting log p → IsCutShort f.limits f.setting log' f.written out out'
 
 -- ALL OF IT

@@ -10,6 +10,7 @@ ghost use Rattle.hc_wire.specs.Wires.{HasRisen};
 ghost use Rattle.hc_proxy.specs.Endings.{IsFresh, MayEnd};
 ghost use Rattle.hc_proxy.specs.Keeping.{Frame, Turn, IsStocked, IsStockedSome, Begun, IsBegun, KeepsPolled, Goes};
 ghost use Rattle.hc_proxy.specs.Logging.{Follows};
+ghost use Rattle.hc_proxy.specs.Recorded.{Records};
 ghost use Rattle.hc_proxy.specs.Resting.{Rests};
 ghost use Rattle.hc_proxy.specs.Rows.{setting_of};
 ghost use Rattle.hc_proxy.specs.Rows as rows;
@@ -59,7 +60,9 @@ pub fn serve_on<B: Backend + Drop, W: Wire, K: Sink>(
     ensures serves { ((a b : B) → B.faults a ≡ B.faults b) → ServesAs (limits_in cache) turns
         (W.log wire.old) (W.log wire.new) (K.taken log.old) (K.taken log.new) result }
 
-    // How it ends, over any store.
+    // What it writes, and how it ends, over any store.
+    ensures recorded { Records (limits_in cache) no_contents
+        (K.taken log.old) (K.taken log.new) result }
     ensures ends { MayEnd result }
     ensures wire { result ≡ ended.WireFailed → HasRisen (W.faults wire.old) (W.faults wire.new) }
     ensures wire_calm { result ≢ ended.WireFailed → W.faults wire.new ≡ W.faults wire.old }
@@ -97,7 +100,9 @@ pub fn serve_from<B: Backend + Drop, W: Wire, K: Sink>(
         → ServesWith (limits_in cache) (setting_of contents front) turns (W.log wire.old)
         (W.log wire.new) (K.taken log.old) (K.taken log.new) result }
 
-    // How it ends, over any store.
+    // What it writes, and how it ends, over any store.
+    ensures recorded { (contents : Contents) → IsStocked contents cache last
+        → Records (limits_in cache) contents (K.taken log.old) (K.taken log.new) result }
     ensures ends { MayEnd result }
     ensures wire { result ≡ ended.WireFailed → HasRisen (W.faults wire.old) (W.faults wire.new) }
     ensures wire_calm { result ≢ ended.WireFailed → W.faults wire.new ≡ W.faults wire.old }
@@ -121,6 +126,10 @@ impl<B: Backend> Proxy<B> {
             → Begins (W.events wire.old) f self.old before (W.log wire.old) (W.stages wire.old)
             → EndsBy f.limits f.setting turns before (W.log wire.new) (K.taken log.old)
             (K.taken log.new) (ended_as result) }
+        ensures recorded { (f : Frame) (before : logs.Log)
+            → Begins (W.events wire.old) f self.old before (W.log wire.old) (W.stages wire.old)
+            → Records f.limits f.setting.contents (K.taken log.old) (K.taken log.new)
+            (ended_as result) }
         ensures causes { HasCauses (W.faults wire.old) (W.faults wire.new)
             (K.faults log.old) (K.faults log.new) result }
     {

@@ -1,7 +1,8 @@
 use Rattle.std.proofs.Common.{◌∙◌, refl, subst, ℕ}
 use Rattle.hc_rules.specs.declared.room.Limits.{Limits}
 use Rattle.hc_wire.specs.Wires.{HasRisen}
-use Rattle.hc_proxy.specs.Served.{ServesAs}
+use Rattle.hc_effects.proofs.Vocabulary.{no_contents}
+use Rattle.hc_proxy.specs.{Recorded.{Records}, Served.{ServesAs}}
 use Rattle.hc_app.specs.Serving as serving
 use Rattle.hc_app.proofs.Served.{never_source, wire_is, wire_off, sink_is, sink_off, unbound_serves}
 use Rattle.hc_app.proofs.run.serve.Goals as goal
@@ -15,6 +16,8 @@ returns-in-Ok-bind-clause-serves g c =
     (subst (λ (l : Limits). ServesAs l c.args.turns (g.W.Wire.log c.bind.new.self) (g.W.Wire.log c.serve_on.new.wire) (g.K.Sink.taken c.args.out.now)
     (g.K.Sink.taken c.serve_on.new.log) c.serve_on.result)
     c.in-Ok.ensures.limits (c.serve_on.ensures.serves (λ a b. refl)))
+    (subst (λ (l : Limits). Records l no_contents (g.K.Sink.taken c.args.out.now) (g.K.Sink.taken c.serve_on.new.log) c.serve_on.result)
+    c.in-Ok.ensures.limits c.serve_on.ensures.recorded)
     c.served.ensures
 
 pub returns-in-Ok-bind-clause-unread : goal.returns-in-Ok-bind-clause-unread

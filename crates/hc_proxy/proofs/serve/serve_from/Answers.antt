@@ -1,7 +1,7 @@
 use Rattle.std.proofs.{Common.{◌≡◌, ◌+◌, Ok, Err, refl, ap, sym, ◌∙◌, subst, arith}, Math.Logic.{∥∥₁_map}}
 use Rattle.hc_core.specs.Steps.{steps, limits_in, bytes_received}
 use Rattle.hc_sched.specs.declared.schedule.Ended.TheVariants as ended
-use Rattle.hc_proxy.specs.{Endings.{MayEnd}, Stops.{ended_by}, Served.{ServesWith}, Rows.{setting_of}}
+use Rattle.hc_proxy.specs.{Endings.{MayEnd}, Recorded.{Records}, Stops.{ended_by}, Served.{ServesWith}, Rows.{setting_of}}
 use Rattle.hc_proxy.proofs.{Causes.{may_end, ends_wire, ends_wire_calm, ends_sink, ends_sink_calm}, LoopGoes.{log_of, frame_of, unused_so, loop_begins, reported_ends, reported_first}}
 use Rattle.hc_proxy.proofs.serve.serve_from.Goals as goal
 
@@ -53,6 +53,33 @@ returns-clause-serves g c = λ none contents stocked.
     (λ log fresh. c.new-proxy.ensures.rests (frame_of (limits_in cache) (setting_of contents c.args.front)) log
     (unused_so (limits_in cache) (setting_of contents c.args.front) cache c.args.last stocked refl zero c.requires.few) stocked.last_is refl fresh)
     (ap steps c.new-proxy.ensures.cache ∙ omega arith) c.new-proxy.ensures.written)))
+
+pub returns-in-Ok-clause-recorded : goal.returns-in-Ok-clause-recorded
+returns-in-Ok-clause-recorded g c = λ contents stocked.
+    let cache = c.args.cache in
+    let reported = g.W.Wire.log c.args.wire.now in
+    let zero : steps cache + bytes_received cache ≡ 0 = c.requires.unused in
+    c.in-Ok.ensures.recorded (frame_of (limits_in cache) (setting_of contents c.args.front)) (log_of reported)
+    (loop_begins (g.W.Wire.events c.args.wire.now) (limits_in cache) (setting_of contents c.args.front) c.new-proxy.result reported
+    (g.W.Wire.stages c.args.wire.now)
+    c.requires.fresh c.requires.unseen
+    (λ log fresh. c.new-proxy.ensures.rests (frame_of (limits_in cache) (setting_of contents c.args.front)) log
+    (unused_so (limits_in cache) (setting_of contents c.args.front) cache c.args.last stocked refl zero c.requires.few) stocked.last_is refl fresh)
+    (ap steps c.new-proxy.ensures.cache ∙ omega arith) c.new-proxy.ensures.written)
+
+pub returns-clause-recorded : goal.returns-clause-recorded
+returns-clause-recorded g c = λ contents stocked.
+    let cache = c.args.cache in
+    let reported = g.W.Wire.log c.args.wire.now in
+    let zero : steps cache + bytes_received cache ≡ 0 = c.requires.unused in
+    subst (Records (limits_in cache) contents (g.K.Sink.taken c.args.log.now) (g.K.Sink.taken c.serve.new.log)) (sym c.ended.ensures)
+    (c.in-Err.ensures.recorded (frame_of (limits_in cache) (setting_of contents c.args.front)) (log_of reported)
+    (loop_begins (g.W.Wire.events c.args.wire.now) (limits_in cache) (setting_of contents c.args.front) c.new-proxy.result reported
+    (g.W.Wire.stages c.args.wire.now)
+    c.requires.fresh c.requires.unseen
+    (λ log fresh. c.new-proxy.ensures.rests (frame_of (limits_in cache) (setting_of contents c.args.front)) log
+    (unused_so (limits_in cache) (setting_of contents c.args.front) cache c.args.last stocked refl zero c.requires.few) stocked.last_is refl fresh)
+    (ap steps c.new-proxy.ensures.cache ∙ omega arith) c.new-proxy.ensures.written))
 
 pub returns-in-Ok-clause-wire_calm : goal.returns-in-Ok-clause-wire_calm
 returns-in-Ok-clause-wire_calm g c =

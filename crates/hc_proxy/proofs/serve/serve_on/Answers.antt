@@ -7,3 +7,6 @@ serve_from-requires-clause-stocked g c = ∣ (no_contents, record { stands = c.r
 
 pub returns-clause-serves : goal.returns-clause-serves
 returns-clause-serves g c = λ none. c.serve_from.ensures.serves none no_contents (record { stands = c.requires.new; last_is = refl })
+
+pub returns-clause-recorded : goal.returns-clause-recorded
+returns-clause-recorded g c = c.serve_from.ensures.recorded no_contents (record { stands = c.requires.new; last_is = refl })

@@ -1,7 +1,7 @@
 use Rattle.std.proofs.{Common.{◌≡◌, ◌≤◌, ◌<◌, ℕ, refl, ap, sym, ◌∙◌, subst, arith}, Math.Logic.{∥∥₁_map}}
 use Rattle.hc_sched.specs.declared.schedule.Ended.TheVariants as ended
 use Rattle.hc_proxy.specs.{Rows.{unused}, Serving.{EndsBy, HasCauses}, Waiting.{waits}}
-use Rattle.hc_proxy.proofs.{Causes.{err_is, calm_ok, calm_err, causes_as, causes_from, wire_kept, sink_kept}, LoopGoes.{first_waits, turning_begins, turning_on, turning_stops, turning_wants, turning_ends}}
+use Rattle.hc_proxy.proofs.{Causes.{err_is, calm_ok, calm_err, causes_as, causes_from, wire_kept, sink_kept}, LoopGoes.{first_waits, turning_begins, turning_on, turning_stops, turning_wants, turning_ends, writing_begins, writing_on, writing_stops, writing_wants, writing_ends}}
 use Rattle.hc_proxy.proofs.proxy.Proxy.serve.Goals as goal
 
 pub loop-turn-init : goal.loop-turn-init
@@ -12,6 +12,8 @@ loop-turn-init g c = (
   refl,
   refl,
   omega arith,
+  λ f before b. writing_begins (g.W.Wire.events c.args.wire.now) f c.args.self.now before (g.W.Wire.log c.args.wire.now)
+      (g.W.Wire.stages c.args.wire.now) (g.K.Sink.taken c.args.log.now) b,
 )
 
 pub turn-requires-clause-ready : goal.turn-requires-clause-ready
@@ -33,6 +35,12 @@ loop-turn-preserved g c = (
   sink_kept (g.W.Wire.faults c.loop-turn.wire) (g.W.Wire.faults c.turn.new.wire) (g.K.Sink.faults c.loop-turn.log) (g.K.Sink.faults c.turn.new.log) _
       c.in_ok-wait.ensures.causes ∙ c.loop-turn.invariant.3,
   (let lt : c.loop-turn._turn < c.args.turns = c.loop-turn-test.true in omega arith),
+  λ f before b.
+      let w = c.loop-turn.invariant.5 f before b in
+      writing_on (g.W.Wire.events c.loop-turn.wire) f.limits f.setting.contents c.loop-turn.self (g.W.Wire.log c.loop-turn.wire)
+      (g.W.Wire.stages c.loop-turn.wire) (g.K.Sink.taken c.args.log.now) (g.K.Sink.taken c.loop-turn.log) c.loop-turn.wait w
+      (g.W.Wire.events c.turn.new.wire) c.turn.new.self (g.W.Wire.log c.turn.new.wire) (g.W.Wire.stages c.turn.new.wire) (g.K.Sink.taken c.turn.new.log) _
+      (c.in_ok-wait.ensures.ok w.f w.p w.log w.still w.wait_is),
 )
 
 pub returns-in_err-wait-clause-serves : goal.returns-in_err-wait-clause-serves
@@ -43,6 +51,14 @@ returns-in_err-wait-clause-serves g c = λ none f before b.
     c.args.turns c.turn.new.self (g.W.Wire.log c.turn.new.wire) (g.K.Sink.taken c.turn.new.log) _ c.from_residual.result c.from_residual.ensures.1
     c.loop-turn-test.true
     (c.in_err-wait.ensures.err t.f t.p t.log t.still t.wait_is) (none _ _)
+
+pub returns-in_err-wait-clause-recorded : goal.returns-in_err-wait-clause-recorded
+returns-in_err-wait-clause-recorded g c = λ f before b.
+    let w = c.loop-turn.invariant.5 f before b in
+    writing_stops (g.W.Wire.events c.loop-turn.wire) f.limits f.setting.contents c.loop-turn.self (g.W.Wire.log c.loop-turn.wire)
+    (g.W.Wire.stages c.loop-turn.wire) (g.K.Sink.taken c.args.log.now) (g.K.Sink.taken c.loop-turn.log) c.loop-turn.wait w
+    c.turn.new.self (g.W.Wire.log c.turn.new.wire) (g.K.Sink.taken c.turn.new.log) _ c.from_residual.result c.from_residual.ensures.1
+    (c.in_err-wait.ensures.err w.f w.p w.log w.still w.wait_is)
 
 pub returns-in_err-wait-clause-causes : goal.returns-in_err-wait-clause-causes
 returns-in_err-wait-clause-causes g c =
@@ -63,6 +79,12 @@ returns-in_err-leave-clause-serves g c = λ none f before b.
     c.args.turns (g.W.Wire.log c.leave.new.wire) _ c.from_residual-in_err-leave.result c.from_residual-in_err-leave.ensures.1 c.loop-turn.invariant.4
     c.in_err-leave.ensures.err
 
+pub returns-in_err-leave-clause-recorded : goal.returns-in_err-leave-clause-recorded
+returns-in_err-leave-clause-recorded g c = λ f before b.
+    writing_wants (g.W.Wire.events c.loop-turn.wire) f.limits f.setting.contents c.loop-turn.self (g.W.Wire.log c.loop-turn.wire)
+    (g.W.Wire.stages c.loop-turn.wire) (g.K.Sink.taken c.args.log.now) (g.K.Sink.taken c.loop-turn.log) c.loop-turn.wait
+    (c.loop-turn.invariant.5 f before b) _ c.from_residual-in_err-leave.result c.from_residual-in_err-leave.ensures.1
+
 pub returns-in_err-leave-clause-causes : goal.returns-in_err-leave-clause-causes
 returns-in_err-leave-clause-causes g c =
     calm_err (g.W.Wire.faults c.args.wire.now) (g.W.Wire.faults c.leave.new.wire) (g.K.Sink.faults c.args.log.now) (g.K.Sink.faults c.loop-turn.log)
@@ -81,6 +103,12 @@ returns-clause-serves g c = λ none f before b.
     (turning_ends (g.W.Wire.events c.loop-turn.wire) c.loop-turn._turn f.limits f.setting before c.loop-turn.self (g.W.Wire.log c.loop-turn.wire)
     (g.W.Wire.stages c.loop-turn.wire) (g.K.Sink.taken c.args.log.now) (g.K.Sink.taken c.loop-turn.log) c.loop-turn.wait t
     (g.W.Wire.log c.leave.new.wire) (c.in_ok-leave.ensures.ok t.f t.p t.log t.still.rests t.still.follows))
+
+pub returns-clause-recorded : goal.returns-clause-recorded
+returns-clause-recorded g c = λ f before b.
+    writing_ends (g.W.Wire.events c.loop-turn.wire) f.limits f.setting.contents c.loop-turn.self (g.W.Wire.log c.loop-turn.wire)
+    (g.W.Wire.stages c.loop-turn.wire) (g.K.Sink.taken c.args.log.now) (g.K.Sink.taken c.loop-turn.log) c.loop-turn.wait
+    (c.loop-turn.invariant.5 f before b)
 
 pub returns-clause-causes : goal.returns-clause-causes
 returns-clause-causes g c =

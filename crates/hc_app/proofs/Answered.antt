@@ -1,5 +1,5 @@
 -- How the test origin ended, and what was bound for it.
-use Rattle.std.{proofs.Common.{◌≡◌, ◌≢◌, ℕ, Option}}
+use Rattle.std.proofs.Common.{◌≡◌, ◌≢◌, ℕ, Option}
 use Rattle.hc_sched.specs.declared.schedule.Ended.{Ended}
 use Rattle.hc_wire.specs.{Logs.{Log}, declared.event.{Address.{Address}, WireError.{WireError}}}
 use Rattle.hc_wire.specs.declared.event.WireError.TheVariants as wire

@@ -3,8 +3,7 @@
 -- Where the course led, the fetch is open behind the events, or the last one decided, or was foreign (`IsAt`). Where it
 -- isn't over it is open, so all is written (`all_written`). Where it is over, the last event decided or was foreign
 -- (`over_ends`). Where the sink or memory failed it is one of the three, and all was taken but a last part of what the
--- last event brought (`some_written`). What decides is no failure of the input or the output (`own_decided`), so their
--- causes are the course's.
+-- last event brought (`some_written`).
 use Rattle.std.{proofs.{Common.{◌≡◌, ◌≢◌, ℕ, ◌+◌, List, [], ◌∷◌, ◌++◌, length, Bool, true, false, Option, Some, None, refl, ap, sym, ◌∙◌, subst}, lemmas.List.{append-nil}}, specs.{Prelude.{is_some, if◌then◌else◌}, Option.{option_or}}}
 use Rattle.hc_text.proofs.Basics.{nothing_first as nothing_more}
 use Rattle.hc_effects.proofs.Vocabulary.{Act, Limits, History, act}
@@ -16,62 +15,12 @@ use Rattle.hc_driver.specs.{Courses.{Goes, TakesThenPrefix, text_of, text_before
 use Rattle.hc_driver.specs.Endings as endings
 use Rattle.hc_effects.proofs.Basics.{true_false}
 use Rattle.hc_core.specs.Steps.{limits_in}
+use Rattle.hc_store.specs.declared.backend.Backend.{Ghosts}
 use Rattle.hc_fetch.specs.{declared.{ended.FetchEnded.{FetchEnded}, fetching.Fetching.{Fetching}, plan.FetchPlan.{FetchPlan}}, Bounds.{IsPlan}, Deciding.{by_failure, by_head, by_heads, by_other, fits, decided_by, is_undecided}, Endings.{events_in, IsFetched, WritesAll, WritesSome, IsWholeBody, Fetches, ended_as}, Fetches.{ended_with, is_done_by}, Gathering.{written_of, written_before, written_last}, Heads.{Head, heads_in, first_in, first_head}, Steps.{StandsForFetch, Reports}}
 use Rattle.hc_fetch.specs.declared.ended.FetchEnded.TheVariants as ended
 use Rattle.hc_fetch.specs.Endings as fetches
 use Rattle.hc_laws.proofs.FromNothing.{begins_well}
 use Rattle.hc_fetch.proofs.{Followed.{IsAt, at_open, at_decision, at_foreign, followed, last_is, all_joined, last_joined, over}, Shows.{was_undecided}, Whole.{writes_all_of_it}}
-
--- WHAT DECIDES IS NO FAILURE OF INPUT OR OUTPUT
-
-abbrev pub IsOwn : FetchEnded → Type 0
-IsOwn ended.SourceFailed = ⊥
-IsOwn ended.SinkFailed = ⊥
-IsOwn _ = Unit {0}
-
-abbrev AreOwn : Option FetchEnded → Type 0
-AreOwn None = Unit {0}
-AreOwn (Some by) = IsOwn by
-
-own_failure : (acts : List Act) → AreOwn (by_failure acts)
-own_failure [] = tt
-own_failure (act.Failed c cause ∷ acts) = tt
-own_failure (a ∷ acts) = own_failure acts
-
-own_head : (plan : FetchPlan) (first : Option Head) (head : Head) → AreOwn (by_head plan first head)
-own_head plan first head = by_fit (fits plan first head) first
-  where
-    by_same : (b : Bool) (before : Head) → AreOwn (if b then None else Some (ended.Other head.c head.r before.r))
-    by_same true before = tt
-    by_same false before = tt
-
-    by_fit : (b : Bool) (q : Option Head) → AreOwn (if b then by_other head q else Some (ended.Status head.c head.status))
-    by_fit true None = tt
-    by_fit true (Some before) = by_same _ before
-    by_fit false q = tt
-
-own_or : (a b : Option FetchEnded) → AreOwn a → AreOwn b → AreOwn (option_or a b)
-own_or None b one two = two
-own_or (Some by) b one two = one
-
-own_heads : (plan : FetchPlan) (first : Option Head) (heads : List Head) → AreOwn (by_heads plan first heads)
-own_heads plan first [] = tt
-own_heads plan first (head ∷ heads) =
-    own_or (by_head plan first head) (by_heads plan (option_or first (first_in (head ∷ []))) heads) (own_head plan first head)
-    (own_heads plan (option_or first (first_in (head ∷ []))) heads)
-
-own_decided : (plan : FetchPlan) (f : History) (acts : List Act) (by : FetchEnded) → decided_by plan f acts ≡ Some by → IsOwn by
-unfolding decided_by
-own_decided plan f acts by is =
-    subst AreOwn is (own_or (by_failure acts) (by_heads plan (first_head f) (heads_in acts)) (own_failure acts) (own_heads plan (first_head f) (heads_in acts)))
-
-own_end : (f : History) → IsOwn (ended_with f)
-unfolding ended_with
-own_end f = by_done (is_done_by (first_head f) f (length (written_of f)))
-  where
-    by_done : (b : Bool) → IsOwn (if b then ended.Done (length (written_of f)) else ended.Unfinished (length (written_of f)))
-    by_done true = tt
-    by_done false = tt
 
 -- AT DONE
 
@@ -135,22 +84,22 @@ sink_back course.SourceFailed is = absurd (let no : ended.SourceFailed ≡ ended
 sink_back course.WireFailed is = absurd (let no : ended.NoMemory ≡ ended.SinkFailed = is in cc)
 sink_back course.NoMemory is = absurd (let no : ended.NoMemory ≡ ended.SinkFailed = is in cc)
 
-abbrev pub unspent : Fetching → Fetching → Type 0
+abbrev pub unspent : {B : Type 0} {g : Ghosts B} → Fetching B g → Fetching B g → Type 0
 unspent s u = Unit {0}
 
-module _ (limits : Limits) (plan : FetchPlan) (is_plan : IsPlan plan) (s u : Fetching) (new : StandsForFetch s []) (plan_is : s.plan ≡ plan)
-    (limits_is : limits_in s.cache ≡ limits) (left left' out out' : Option (List ℕ)) where
+module _ {B : Type 0} {g : Ghosts B} (limits : Limits) (plan : FetchPlan) (is_plan : IsPlan plan) (s u : Fetching B g) (new : StandsForFetch s [])
+    (plan_is : s.plan ≡ plan) (limits_is : limits_in s.cache ≡ limits) (left left' out out' : Option (List ℕ)) where
   abbrev pub Went : How → List Timed → Type 0
   Went = Goes Reports over unspent 0 s u out out'
 
   -- the fetch is open behind all these events
-  record IsOpenBehind (v : Fetching) (events : List Timed) : Type 0 where
+  record IsOpenBehind (v : Fetching B g) (events : List Timed) : Type 0 where
     f : History
     stand : StandsForFetch v f
     writes : WritesAll limits plan events f out out'
     joined : written_before f ++ written_last f ≡ written_of f
 
-  open_behind : (v : Fetching) (events : List Timed) (h : courses.History) → courses.events_in h ≡ events → IsAt limits plan v h → over v ≡ false →
+  open_behind : (v : Fetching B g) (events : List Timed) (h : courses.History) → courses.events_in h ≡ events → IsAt limits plan v h → over v ≡ false →
       Takes out out' (text_of h) → IsOpenBehind v events
   open_behind v events h are (at_open f is_fetched events_are text_is before_is stand v_plan v_limits) off taken = record {
     f = f;
@@ -176,16 +125,14 @@ module _ (limits : Limits) (plan : FetchPlan) (is_plan : IsPlan plan) (s u : Fet
   over_ends : (text : List ℕ) (first rest : List Timed) (result : FetchEnded) → ((by : FetchEnded) → u.decided ≡ Some by → result ≡ by) →
       Gives left left' text → IsSteppedAtOnce 0 text first rest
       → (h : courses.History) → courses.events_in h ≡ first → over u ≡ true → Takes out out' (text_of h) → IsAt limits plan u h →
-      Fetches limits plan left left' out out' result × IsOwn result
+      Fetches limits plan left left' out out' result
   over_ends text first rest result by_decision gives at_once h are on taken (at_open f is_fetched events_are text_is before_is stand u_plan u_limits) =
       absurd (true_false (sym on ∙ ap is_some stand.is_open))
   over_ends text first rest result by_decision gives at_once h are on taken
       (at_decision e f by is_fetched events_are text_is before_is undecided decides decided) =
-      let same : result ≡ by = by_decision by decided in (
-        fetches.decided text first rest e f gives at_once is_fetched (events_are ∙ are) undecided (decides ∙ ap (λ (z : FetchEnded). Some z) (sym same))
-            (subst (Takes out out') text_is taken),
-        subst IsOwn (sym same) (own_decided plan f e.acts by decides),
-      )
+      let same : result ≡ by = by_decision by decided in
+      fetches.decided text first rest e f gives at_once is_fetched (events_are ∙ are) undecided (decides ∙ ap (λ (z : FetchEnded). Some z) (sym same))
+      (subst (Takes out out') text_is taken)
   over_ends text first rest result by_decision gives at_once h are on taken
       (at_foreign f next is_fetched undecided joined events_are text_is before_is foreign decided) =
       let same : result ≡ ended.Foreign (length f + 1) = by_decision (ended.Foreign (length f + 1)) decided in
@@ -193,25 +140,22 @@ module _ (limits : Limits) (plan : FetchPlan) (is_plan : IsPlan plan) (s u : Fet
       record { is_fetched = is_fetched; undecided = undecided; events_are = refl; taken = subst (Takes out out') text_is taken } in
       let stepped : IsSteppedAtOnce 0 text (events_in f ++ next ∷ []) rest =
       subst (λ (l : List Timed). IsSteppedAtOnce 0 text l rest) (sym (events_are ∙ are)) at_once in
-      subst (λ (z : FetchEnded). Fetches limits plan left left' out out' z × IsOwn z) (sym same)
-      (fetches.foreign text (events_in f) rest next f gives stepped foreign writes, tt)
+      subst (Fetches limits plan left left' out out') (sym same) (fetches.foreign text (events_in f) rest next f gives stepped foreign writes)
 
   up_to_end : (text : List ℕ) (first rest : List Timed) (result : FetchEnded) → ((by : FetchEnded) → u.decided ≡ Some by → result ≡ by) →
       Gives left left' text → IsSteppedAtOnce 0 text first rest
-      → Went UpToEnd first → Fetches limits plan left left' out out' result × IsOwn result
+      → Went UpToEnd first → Fetches limits plan left left' out out' result
   up_to_end text first rest result by_decision gives at_once (courses.up_to_end h are leads on taken) =
       over_ends text first rest result by_decision gives at_once h are on taken (followed limits plan s u h new plan_is limits_is leads)
 
   pub done_ends : (e : Ended) (result : FetchEnded) → ((by : FetchEnded) → u.decided ≡ Some by → result ≡ by) →
       ((f : History) → StandsForFetch u f → result ≡ ended_with f)
-      → Ends Went 0 left left' e → e ≡ course.Done → Fetches limits plan left left' out out' result × IsOwn result
+      → Ends Went 0 left left' e → e ≡ course.Done → Fetches limits plan left left' out out' result
   done_ends _ result by_decision by_end (endings.done text items gives spells went) is =
       let q = all_written (events_of 0 items) went in
-      let same : result ≡ ended_with q.f = by_end q.f q.stand in (
-        fetches.at_end text items q.f gives spells q.writes (sym same)
-            (subst (IsWholeBody plan q.f) (sym same) (whole_body limits plan q.f is_plan q.writes.is_fetched q.writes.undecided (ended_with q.f) refl)),
-        subst IsOwn (sym same) (own_end q.f),
-      )
+      let same : result ≡ ended_with q.f = by_end q.f q.stand in
+      fetches.at_end text items q.f gives spells q.writes (sym same)
+      (subst (IsWholeBody plan q.f) (sym same) (whole_body limits plan q.f is_plan q.writes.is_fetched q.writes.undecided (ended_with q.f) refl))
   done_ends _ result by_decision by_end (endings.over text first rest gives at_once went) is = up_to_end text first rest result by_decision gives at_once went
   done_ends _ result by_decision by_end (endings.refused reach text r read refused went) is = absurd (let no : course.Refused r ≡ course.Done = is in cc)
   done_ends _ result by_decision by_end (endings.unreadable text gives unrefused went) is = absurd (let no : course.SourceFailed ≡ course.Done = is in cc)
@@ -222,7 +166,7 @@ module _ (limits : Limits) (plan : FetchPlan) (is_plan : IsPlan plan) (s u : Fet
 
   -- IT IS CUT OFF
 
-  some_written : (v : Fetching) (events : List Timed) (h : courses.History) → courses.events_in h ≡ events → IsAt limits plan v h →
+  some_written : (v : Fetching B g) (events : List Timed) (h : courses.History) → courses.events_in h ≡ events → IsAt limits plan v h →
       TakesThenPrefix out out' (text_before h) (last_text h) → WritesSome limits plan events out out'
   some_written v events h are (at_open f is_fetched events_are text_is before_is stand v_plan v_limits) took = record {
     f = f;

@@ -5,6 +5,7 @@ use Rattle.hc_text.proofs.Basics.{and_right, not_some as none_some}
 use Rattle.hc_effects.proofs.Vocabulary.{History}
 use Rattle.hc_effects.proofs.Basics.{false_true}
 use Rattle.hc_fetch.specs.declared.ended.FetchEnded.TheVariants as ended
+use Rattle.hc_store.specs.declared.backend.Backend.{Ghosts}
 use Rattle.hc_fetch.specs.{declared.{fetching.Fetching.{Fetching}, plan.FetchPlan.{FetchPlan}}, Deciding.{by_other, by_head, by_heads, fits, fits_first, decided_by, is_undecided}, Fetches.{ended_with, is_done_by, is_all, has_ended}, Firsts.{first_as, is_done_at, is_done_with}, Gathering.{written_of}, Heads.{Head, heads_in, first_in, first_head, total_of, total_by}, Steps.{StandsForFetch}}
 use Rattle.hc_fetch.proofs.Shows.{decides_nothing, no_heads_decide, none_left, none_right, unfit}
 
@@ -74,13 +75,13 @@ done_as : (plan : FetchPlan) (f : History) (q : Option Head) (n : ℕ) → first
 done_as plan f None n shown undecided = refl
 done_as plan f (Some head) n shown undecided = done_head plan head (has_ended 1 f) n (first_fits plan f head undecided shown) (head.status == 200) refl
 
-pub done_so : (u : Fetching) (f : History) → StandsForFetch u f →
+pub done_so : {B : Type 0} {g : Ghosts B} (u : Fetching B g) (f : History) → StandsForFetch u f →
     is_done_with u.first u.has_ended u.gathered.written ≡ is_done_by (first_head f) f (length (written_of f))
 done_so u f stand =
     rw (stand.so_far.first, stand.so_far.ended, stand.so_far.heard.written)
     (done_as u.plan f (first_head f) (length (written_of f)) refl stand.so_far.undecided)
 
-pub ended_so : (u : Fetching) (f : History) (b : Bool) → StandsForFetch u f → b ≡ is_done_with u.first u.has_ended u.gathered.written
+pub ended_so : {B : Type 0} {g : Ghosts B} (u : Fetching B g) (f : History) (b : Bool) → StandsForFetch u f → b ≡ is_done_with u.first u.has_ended u.gathered.written
     → (if b then ended.Done u.gathered.written else ended.Unfinished u.gathered.written) ≡ ended_with f
 unfolding ended_with
 ended_so u f b stand is =

@@ -12,6 +12,7 @@ use Rattle.hc_effects.proofs.Vocabulary.{Limits, Entry, History, no_contents, Is
 use Rattle.hc_effects.proofs.Basics.{true_false}
 use Rattle.hc_laws.proofs.{FromNothing.{begins_well}, ReadWhole.{runs_read_whole}}
 use Rattle.hc_core.specs.Steps.{limits_in}
+use Rattle.hc_store.specs.declared.backend.Backend.{Ghosts}
 use Rattle.hc_fetch.specs.{declared.{ended.FetchEnded.{FetchEnded}, fetching.Fetching.{Fetching}, plan.FetchPlan.{FetchPlan}}, Deciding.{is_foreign, has_foreign, decided_by, is_undecided, is_undecided_before}, Endings.{IsFetched, events_in, failures}, Fetches.{cache_history}, Gathering.{written_of, written_before, written_last}, Steps.{HasHeard, StandsForFetch, Answers, Reports}}
 use Rattle.hc_fetch.specs.declared.ended.FetchEnded.TheVariants as ended
 use Rattle.hc_fetch.specs.Steps as steps
@@ -28,7 +29,7 @@ fetched limits plan f run before sound own = record {
 }
 
 -- where a fetch of this plan over these limits is, behind what it told
-pub data IsAt (limits : Limits) (plan : FetchPlan) (u : Fetching) (h : courses.History) : Type 0 where
+pub data IsAt {B : Type 0} {g : Ghosts B} (limits : Limits) (plan : FetchPlan) (u : Fetching B g) (h : courses.History) : Type 0 where
   at_open : (f : History) → IsFetched limits plan f → events_in f ≡ courses.events_in h → text_of h ≡ written_of f → text_before h ≡ written_before f →
       StandsForFetch u f → u.plan ≡ plan → limits_in u.cache ≡ limits → IsAt limits plan u h
   at_decision : (e : Entry) (f : History) (by : FetchEnded) → IsFetched limits plan (e ∷ f) → events_in (e ∷ f) ≡ courses.events_in h →
@@ -57,11 +58,11 @@ none_written : [] ≡ written_of []
 unfolding written_of
 none_written = refl
 
-abbrev pub over : Fetching → Bool
+abbrev pub over : {B : Type 0} {g : Ghosts B} → Fetching B g → Bool
 over s = is_some s.decided
 
-module _ (limits : Limits) (plan : FetchPlan) where
-  open_of : (u : Fetching) (f : History) → HasHeard u f → u.plan ≡ plan → limits_in u.cache ≡ limits → is_undecided_before plan f ≡ true →
+module _ {B : Type 0} {g : Ghosts B} (limits : Limits) (plan : FetchPlan) where
+  open_of : (u : Fetching B g) (f : History) → HasHeard u f → u.plan ≡ plan → limits_in u.cache ≡ limits → is_undecided_before plan f ≡ true →
       IsFetched limits plan f
   open_of u f heard plan_is limits_is before =
       let run : IsRun limits no_contents (cache_history plan f) =
@@ -69,7 +70,7 @@ module _ (limits : Limits) (plan : FetchPlan) where
       (subst (λ (p : FetchPlan). IsRun (limits_in u.cache) no_contents (cache_history p f)) plan_is heard.stands.run) in
       fetched limits plan f run before heard.sound heard.own
 
-  module _ (t u : Fetching) (timed : Timed) (text : List ℕ) (h : courses.History) where
+  module _ (t u : Fetching B g) (timed : Timed) (text : List ℕ) (h : courses.History) where
     abbrev reported : AnsweredBy
     reported = record { timed = timed; text = text }
 
@@ -107,7 +108,7 @@ module _ (limits : Limits) (plan : FetchPlan) where
     one_more number (at_foreign f next is_fetched undecided joined are text_is before_is foreign decided) is_open reports =
         absurd (true_false (sym (ap is_some decided) ∙ is_open))
 
-  pub followed : (s u : Fetching) (h : courses.History) → StandsForFetch s [] → s.plan ≡ plan → limits_in s.cache ≡ limits → Leads Reports over 0 s h u →
+  pub followed : (s u : Fetching B g) (h : courses.History) → StandsForFetch s [] → s.plan ≡ plan → limits_in s.cache ≡ limits → Leads Reports over 0 s h u →
       IsAt limits plan u h
   followed s u _ new plan_is limits_is courses.nothing =
       at_open [] (open_of s [] new.so_far.heard plan_is limits_is refl) refl none_written refl new plan_is limits_is

@@ -11,8 +11,9 @@ use Rattle.hc_sparse.specs.Cells.{nothing}
 use Rattle.hc_event.specs.Counting.{received_in}
 use Rattle.hc_effects.proofs.Vocabulary.{Act, Event, Entry, History, no_contents, tables}
 use Rattle.hc_effects.proofs.Basics.{true_false}
+use Rattle.hc_store.specs.declared.backend.Backend.{Ghosts}
 use Rattle.hc_core.specs.Steps.{StandsFor, limits_in, bytes_received, last_moment, steps}
-use Rattle.hc_fetch.specs.{declared.{ended.FetchEnded.{FetchEnded}, fetching.Fetching.{Fetching}, first.First.{First}, gathering.Gathered.{Gathered}, plan.FetchPlan.{FetchPlan}}, Ahead.{KeepsAll}, Bounds.{AreFew, starts_allowed}, Deciding.{is_foreign, has_foreign, by_failure, by_heads, decided_by, is_undecided}, Fetches.{cache_history, started, starts_behind, start_by_head, start_by_total, ends_in, has_ended}, Firsts.{first_as, total_in, total_to_start}, Gathering.{gathered, written_of}, Heads.{Head, heads_in, first_in, first_head}, Hearing.{KeepsRest, Steps, HasStarted, Starts, Takes, AllFit}, Laws.{IsFetchRun}, Plans.{part_count}, Steps.{HasHeard, HasHeardOpen, StandsForFetch, HearsMore, IsAnswered, Hears, Answers}}
+use Rattle.hc_fetch.specs.{declared.{ended.FetchEnded.{FetchEnded}, fetching.Fetching.{Fetching}, first.First.{First}, gathering.Gathered.{Gathered}, plan.FetchPlan.{FetchPlan}}, Ahead.{KeepsAll}, Bounds.{AreFew, NeverFails, starts_allowed}, Deciding.{is_foreign, has_foreign, by_failure, by_heads, decided_by, is_undecided}, Fetches.{cache_history, started, starts_behind, start_by_head, start_by_total, ends_in, has_ended}, Firsts.{first_as, total_in, total_to_start}, Gathering.{gathered, written_of}, Heads.{Head, heads_in, first_in, first_head}, Hearing.{KeepsRest, Steps, HasStarted, Starts, Takes, AllFit}, Laws.{IsFetchRun}, Plans.{part_count}, Steps.{HasHeard, HasHeardOpen, StandsForFetch, HearsMore, IsAnswered, Hears, Answers}}
 use Rattle.hc_fetch.proofs.{Overs.{written_long, writes_more}, Positions.{all_fit}, Started.{brings, first_brings, total_brings, one_started_before, received_none, started_on}}
 
 -- WHEN THE OTHERS START
@@ -49,7 +50,7 @@ or_if true false = refl
 or_if false true = refl
 or_if false false = refl
 
-module _ (s t v : Fetching) (now : ℕ) (event : Event) (acts : List Act) (text : List ℕ) (decides : Option FetchEnded)
+module _ {B : Type 0} {g : Ghosts B} (s t v : Fetching B g) (now : ℕ) (event : Event) (acts : List Act) (text : List ℕ) (decides : Option FetchEnded)
     (step : Steps s t now event acts) (takes : Takes t v acts [] text (by_failure acts) decides) (own : is_foreign event ≡ false)
     (small : bytes_received s.cache + received_in event < 2 ^ 61) where
   abbrev pub e : Entry
@@ -72,19 +73,19 @@ module _ (s t v : Fetching) (now : ℕ) (event : Event) (acts : List Act) (text 
     own_is = ap (λ (b : Bool). b || has_foreign f) own ∙ h.heard.own
 
     pub stands_then : StandsFor v.cache no_contents (e ∷ started s.plan now (cache_history s.plan f))
-    stands_then = rw takes.others.cache (step.stands f (h.heard.stands, count))
+    stands_then = rw takes.others.cache (step.stands h.heard.never f (h.heard.stands, count))
 
     starts_are : starts_behind s.plan f e ≡ start_by_total s.plan now (total_to_start (is_some s.first) decides v.first)
     starts_are = starts_as s.plan e f s.first v.first decides h.first decides_is first_is
 
     -- with the starts that the code makes
-    pub as_run : (u : Fetching) →
+    pub as_run : (u : Fetching B g) →
         StandsFor u.cache no_contents
         (start_by_total s.plan now (total_to_start (is_some s.first) decides v.first) ++ (e ∷ started s.plan now (cache_history s.plan f)))
         → StandsFor u.cache no_contents (cache_history s.plan (e ∷ f))
     as_run u stands = subst (λ (xs : History). StandsFor u.cache no_contents (xs ++ (e ∷ started s.plan now (cache_history s.plan f)))) (sym starts_are) stands
 
-    module _ (u : Fetching) (stands : StandsFor u.cache no_contents (cache_history s.plan (e ∷ f))) (rest : KeepsRest v u)
+    module _ (u : Fetching B g) (stands : StandsFor u.cache no_contents (cache_history s.plan (e ∷ f))) (rest : KeepsRest v u)
         (received : bytes_received u.cache ≡ bytes_received v.cache) where
       run : IsFetchRun (limits_in u.cache) s.plan (e ∷ f)
       run = record { begins = stands.begins; run = stands.run; undecided_before = h.undecided }
@@ -127,9 +128,10 @@ module _ (s t v : Fetching) (now : ℕ) (event : Event) (acts : List Act) (text 
       pub hears_more : HearsMore s u e f text decides
       hears_more = record {
         heard = record {
+          never = h.heard.never;
           stands = subst (λ (p : FetchPlan). StandsFor u.cache no_contents (cache_history p (e ∷ f))) (sym plan_is) stands;
           own = own_is;
-          sound = (let none = step.sound in let was = h.heard.sound in omega (arith, none, was));
+          sound = (let none = step.sound h.heard.never in let was = h.heard.sound in omega (arith, none, was));
           received = subst (λ (p : FetchPlan). (tables no_contents (cache_history p (e ∷ f))).received ≤ bytes_received u.cache) (sym plan_is) came_now;
           keeps = keeps_now;
           written = written_long u.gathered.ahead u.gathered.written (e ∷ f) keeps_now;
@@ -188,7 +190,7 @@ module _ (s t v : Fetching) (now : ℕ) (event : Event) (acts : List Act) (text 
   }
 
   -- the others start behind it
-  pub answered_with : (u : Fetching) (total : ℕ) → Some total ≡ total_to_start (is_some s.first) decides v.first → 1 ≤ s.count →
+  pub answered_with : (u : Fetching B g) (total : ℕ) → Some total ≡ total_to_start (is_some s.first) decides v.first → 1 ≤ s.count →
       Starts v u now total (part_count v.plan total) → IsAnswered s u now event text decides
   answered_with u total is some starts = record {
     acts = acts;
@@ -235,7 +237,7 @@ module _ (s t v : Fetching) (now : ℕ) (event : Event) (acts : List Act) (text 
       stands_so f h count =
           let none : first_head f ≡ None = no_head (first_head f) (sym (ap is_some h.first) ∙ parts.0) in
           let has : HasStarted (e ∷ started s.plan now (cache_history s.plan f)) 1 = started_on e _ 1 own (one_started_before s.plan now f h.heard.own none) in
-          let on = starts.stands (e ∷ started s.plan now (cache_history s.plan f)) (stands_then f h count) has in
+          let on = starts.stands h.heard.never (e ∷ started s.plan now (cache_history s.plan f)) (stands_then f h count) has in
           subst (λ (q : Option ℕ). StandsFor u.cache no_contents (start_by_total s.plan now q ++ (e ∷ started s.plan now (cache_history s.plan f)))) is
           (subst (λ (p : FetchPlan). StandsFor u.cache no_contents
           (start_by_total p now (Some total) ++ (e ∷ started s.plan now (cache_history s.plan f)))) plan_then on)
@@ -243,15 +245,16 @@ module _ (s t v : Fetching) (now : ℕ) (event : Event) (acts : List Act) (text 
 -- WHAT THE STEP TELLS
 
 -- what counts for what it heard is the same
-pub record SameHeard (s t : Fetching) : Type 0 where
+pub record SameHeard {B : Type 0} {g : Ghosts B} (s t : Fetching B g) : Type 0 where
   pub plan : t.plan ≡ s.plan
   pub cache : t.cache ≡ s.cache
   pub gathered : t.gathered ≡ s.gathered
   pub first : t.first ≡ s.first
   pub ended : t.has_ended ≡ s.has_ended
 
-heard_as : (s t : Fetching) (f : History) → SameHeard s t → HasHeard s f → HasHeard t f
+heard_as : {B : Type 0} {g : Ghosts B} (s t : Fetching B g) (f : History) → SameHeard s t → HasHeard s f → HasHeard t f
 heard_as s t f same h = record {
+  never = h.never;
   stands = rw (same.plan, same.cache) h.stands;
   sound = h.sound;
   own = h.own;
@@ -260,7 +263,7 @@ heard_as s t f same h = record {
   written = rw same.gathered h.written;
 }
 
-open_as : (s t : Fetching) (f : History) → SameHeard s t → HasHeardOpen s f → HasHeardOpen t f
+open_as : {B : Type 0} {g : Ghosts B} (s t : Fetching B g) (f : History) → SameHeard s t → HasHeardOpen s f → HasHeardOpen t f
 open_as s t f same h = record {
   heard = heard_as s t f same h.heard;
   undecided = rw same.plan h.undecided;
@@ -268,7 +271,7 @@ open_as s t f same h = record {
   ended = same.ended ∙ h.ended;
 }
 
-pub reports_so : (s t u w : Fetching) (now : ℕ) (event : Event) (text : List ℕ) (decides : Option FetchEnded) → SameHeard s t → t.count ≡ s.count + 1 →
+pub reports_so : {B : Type 0} {g : Ghosts B} (s t u w : Fetching B g) (now : ℕ) (event : Event) (text : List ℕ) (decides : Option FetchEnded) → SameHeard s t → t.count ≡ s.count + 1 →
     IsAnswered t u now event text decides
     → SameHeard u w → w.count ≡ u.count → w.decided ≡ decides → Answers s now event text w
 reports_so s t u w now event text decides before counted a after count_is decided_is = record {
@@ -305,13 +308,14 @@ reports_so s t u w now event text decides before counted a after count_is decide
 
 -- WHERE IT BEGINS
 
-pub new_stands : (u : Fetching) → StandsFor u.cache no_contents [] → KeepsAll u.gathered.ahead u.gathered.written nothing → u.gathered.written ≡ 0 →
+pub new_stands : {B : Type 0} {g : Ghosts B} (u : Fetching B g) → NeverFails g → StandsFor u.cache no_contents [] → KeepsAll u.gathered.ahead u.gathered.written nothing → u.gathered.written ≡ 0 →
     u.first ≡ None → u.has_ended ≡ false → u.count ≡ 0 → u.decided ≡ None
     → StandsForFetch u []
 unfolding written_of
-new_stands u stands keeps written first ended count open_is = record {
+new_stands u never stands keeps written first ended count open_is = record {
   so_far = record {
     heard = record {
+      never = never;
       stands = stands;
       sound = refl;
       own = refl;

@@ -5,12 +5,13 @@
 -- first act on, so it keeps that whatever is taken of the acts that are left makes what is taken of all. A head is seen
 -- (`takes_shown`), bytes are given (`takes_given`), an end is told (`takes_ended`), and nothing is taken of an act of
 -- another kind.
-use Rattle.std.{proofs.{Common.{◌≡◌, ℕ, suc, ◌+◌, ◌<◌, ◌≤◌, ◌==◌, get_or, drop, length, List, [], ◌∷◌, Bool, true, false, Option, Some, None, refl, ap, sym, ◌∙◌, subst, arith}, Math.Seq.{drop-cons}, lemmas.{Bool.Decides.{nat_tests}, List.{drop_all}}}, specs.{Prelude.{◌||◌, if◌then◌else◌, is_some}, Option.{option_or}}}
+use Rattle.std.{proofs.{Common.{◌≡◌, ℕ, suc, ◌+◌, ◌<◌, ◌≤◌, ◌==◌, get_or, drop, length, List, [], ◌∷◌, Bool, true, false, Option, Some, None, refl, ap, sym, ◌∙◌, subst, arith}, Math.Seq.{drop-cons}, lemmas.{Bool.Decides.{nat_tests}, List.{drop_all}}}, specs.{Prelude.{◌||◌, if◌then◌else◌, is_some, IfSome}, Option.{option_or}}}
 use Rattle.hc_text.proofs.Basics.{not_some as none_some, or_false, or_none}
 use Rattle.hc_sparse.specs.Cells.{Cells, cells_with}
 use Rattle.hc_effects.proofs.Vocabulary.{Act, Why, act}
 use Rattle.hc_effects.proofs.Basics.{false_true}
-use Rattle.hc_fetch.specs.{declared.{ended.FetchEnded.{FetchEnded}, fetching.Fetching.{Fetching}, gathering.Gathered.{Gathered}, plan.FetchPlan.{FetchPlan}}, Ahead.{Fit, KeepsAll, Appends}, Deciding.{by_head, by_heads}, Fetches.{ends_in}, Firsts.{first_as}, Gathering.{gathered_in}, Heads.{Head, heads_in, first_in, total_of}, Hearing.{KeepsOthers, Sees, AllFit, Takes}}
+use Rattle.hc_store.specs.declared.backend.Backend.{Ghosts}
+use Rattle.hc_fetch.specs.{declared.{ended.FetchEnded.{FetchEnded}, fetching.Fetching.{Fetching}, gathering.Gathered.{Gathered}, plan.FetchPlan.{FetchPlan}}, Ahead.{Fit, KeepsAll, Appends}, Deciding.{IsOwn, by_head, by_heads}, Fetches.{ends_in}, Firsts.{first_as}, Gathering.{gathered_in}, Heads.{Head, heads_in, first_in, total_of}, Hearing.{KeepsOthers, Sees, AllFit, Takes}}
 use Rattle.hc_fetch.proofs.{Aheads.{appends_none, appends_more}, Overs.{appends_over}, Shows.{or_assoc}}
 
 or_both : (a b c : Bool) → ((a || b) || c) ≡ (a || (b || c))
@@ -20,6 +21,10 @@ or_both false b c = refl
 or_three : (a b c : Option FetchEnded) → option_or (option_or a b) c ≡ option_or a (option_or b c)
 or_three None b c = refl
 or_three (Some x) b c = refl
+
+pub own_or : (a b : Option FetchEnded) → IfSome a IsOwn → IfSome b IsOwn → IfSome (option_or a b) IsOwn
+own_or None b one two = two
+own_or (Some by) b one two = one
 
 -- ONE ACT BEFORE OTHERS
 
@@ -62,7 +67,7 @@ fit_rest : (a : Act) (acts : List Act) (g : Cells) → AllFit (a ∷ acts) g →
 fit_rest (act.Given c x at bytes) acts g fit = fit.1
 fit_rest a acts g fit = fit
 
-pub takes_none : (s : Fetching) (text : List ℕ) (was : Option FetchEnded) → Takes s s [] text text was was
+pub takes_none : {B : Type 0} {g : Ghosts B} (s : Fetching B g) (text : List ℕ) (was : Option FetchEnded) → Takes s s [] text text was was
 takes_none s text was = record {
   others = record { plan = refl; cache = refl; moment = refl; count = refl; decided = refl };
   decides = λ first is. sym (or_none was);
@@ -73,7 +78,7 @@ takes_none s text was = record {
   text = λ g k fit. appends_none g s.gathered.written text;
 }
 
-pub takes_then : (s t u : Fetching) (a : Act) (acts : List Act) (one two three : List ℕ) (was by result : Option FetchEnded)
+pub takes_then : {B : Type 0} {g : Ghosts B} (s t u : Fetching B g) (a : Act) (acts : List Act) (one two three : List ℕ) (was by result : Option FetchEnded)
     → Takes s t (a ∷ []) one two None by → Takes t u acts two three (option_or was by) result → Takes s u (a ∷ acts) one three was result
 takes_then s t u a acts one two three was by result here rest = record {
   others = record {
@@ -123,14 +128,14 @@ no_more acts i past = drop_all i acts past
 -- WHAT ONE ACT DOES
 
 -- nothing of what it gathered changes
-same_gathered : (s u : Fetching) (g : Cells) → u.gathered ≡ s.gathered → KeepsAll s.gathered.ahead s.gathered.written g →
-    KeepsAll u.gathered.ahead u.gathered.written g
-same_gathered s u g same k = subst (λ (z : Gathered). KeepsAll z.ahead z.written g) (sym same) k
+same_gathered : {B : Type 0} {g : Ghosts B} (s u : Fetching B g) (f : Cells) → u.gathered ≡ s.gathered → KeepsAll s.gathered.ahead s.gathered.written f →
+    KeepsAll u.gathered.ahead u.gathered.written f
+same_gathered s u f same k = subst (λ (z : Gathered). KeepsAll z.ahead z.written f) (sym same) k
 
-same_written : (s u : Fetching) (g : Cells) (text : List ℕ) → u.gathered ≡ s.gathered → Appends g s.gathered.written u.gathered.written text text
-same_written s u g text same = subst (λ (z : Gathered). Appends g s.gathered.written z.written text text) (sym same) (appends_none g s.gathered.written text)
+same_written : {B : Type 0} {g : Ghosts B} (s u : Fetching B g) (f : Cells) (text : List ℕ) → u.gathered ≡ s.gathered → Appends f s.gathered.written u.gathered.written text text
+same_written s u f text same = subst (λ (z : Gathered). Appends f s.gathered.written z.written text text) (sym same) (appends_none f s.gathered.written text)
 
-pub takes_shown : (s u : Fetching) (c r : ℕ) (why : Why) (status : ℕ) (fields : List (List ℕ × List ℕ)) (lo : ℕ) (hi : Option ℕ) (text : List ℕ)
+pub takes_shown : {B : Type 0} {g : Ghosts B} (s u : Fetching B g) (c r : ℕ) (why : Why) (status : ℕ) (fields : List (List ℕ × List ℕ)) (lo : ℕ) (hi : Option ℕ) (text : List ℕ)
     (decides : Option FetchEnded)
     → Sees s u (record { c = c; r = r; status = status; fields = fields }) decides →
     Takes s u (act.Shown c r why status fields lo hi ∷ []) text text None decides
@@ -159,7 +164,7 @@ is_other a shown given ended = other a refl refl (λ g. refl)
 -- A HEAD
 
 -- the first consumer was shown one before, or it is another's
-pub sees_same : (s : Fetching) (head : Head) (decides : Option FetchEnded) →
+pub sees_same : {B : Type 0} {g : Ghosts B} (s : Fetching B g) (head : Head) (decides : Option FetchEnded) →
     ((first : Option Head) → s.first ≡ first_as first → decides ≡ by_head s.plan first head)
     → (head.c ≡ 1 → s.first ≡ None → ⊥) → Sees s s head decides
 sees_same s head decides by seen = record {
@@ -178,7 +183,7 @@ sees_same s head decides by seen = record {
     same (Some first) is b own = refl
 
 -- it is the first consumer's first one
-pub sees_new : (s u : Fetching) (head : Head) (decides : Option FetchEnded) →
+pub sees_new : {B : Type 0} {g : Ghosts B} (s u : Fetching B g) (head : Head) (decides : Option FetchEnded) →
     ((first : Option Head) → s.first ≡ first_as first → decides ≡ by_head s.plan first head)
     → head.c ≡ 1 → s.first ≡ None → u.first ≡ first_as (Some head) → KeepsOthers s u → u.has_ended ≡ s.has_ended → u.gathered ≡ s.gathered →
     Sees s u head decides
@@ -200,7 +205,7 @@ sees_new s u head decides by own none first_is others ended gathered = record {
 
 -- BYTES, AND AN END
 
-pub takes_given : (s u : Fetching) (c x at : ℕ) (bytes before after : List ℕ) → KeepsOthers s u → u.first ≡ s.first → u.has_ended ≡ s.has_ended
+pub takes_given : {B : Type 0} {g : Ghosts B} (s u : Fetching B g) (c x at : ℕ) (bytes before after : List ℕ) → KeepsOthers s u → u.first ≡ s.first → u.has_ended ≡ s.has_ended
     → ((f : Cells) (y : ℕ) → KeepsAll s.gathered.ahead s.gathered.written f → Fit f at bytes →
     KeepsAll u.gathered.ahead u.gathered.written (cells_with at y bytes f))
     → ((f : Cells) (y : ℕ) → KeepsAll s.gathered.ahead s.gathered.written f → Fit f at bytes →
@@ -220,7 +225,7 @@ if_self : (b : Bool) → b ≡ (if b then true else false)
 if_self true = refl
 if_self false = refl
 
-pub takes_ended : (s u : Fetching) (c : ℕ) (text : List ℕ) → KeepsOthers s u → u.first ≡ s.first → u.gathered ≡ s.gathered →
+pub takes_ended : {B : Type 0} {g : Ghosts B} (s u : Fetching B g) (c : ℕ) (text : List ℕ) → KeepsOthers s u → u.first ≡ s.first → u.gathered ≡ s.gathered →
     u.has_ended ≡ (s.has_ended || (c == 1)) → Takes s u (act.Ended c ∷ []) text text None None
 takes_ended s u c text others first gathered ended = record {
   others = others;

@@ -4,12 +4,14 @@
 -- starts where nothing happened yet (`begins_first`), and the others one after another (`StartsOn`). `all_starts` says
 -- that all others started, `begins_none` and `begins_one` what starts before an event.
 use Rattle.std.{proofs.{Common.{◌≡◌, ℕ, zero, suc, ◌+◌, ◌-◌, ◌*◌, ◌<◌, ◌≤◌, List, [], ◌∷◌, ◌++◌, length, Bool, true, false, Option, Some, None, refl, ap, sym, ◌∙◌, subst, arith, min, max, ◌/◌}, lemmas.Bool.Decides.{nat_tests}}, specs.Prelude.{if◌then◌else◌, ◌==◌}}
-use Rattle.hc_effects.proofs.Vocabulary.{Act, Request, Limits, Entry, History, no_contents, entry_without_acts, failures_in, IsOwed, tables}
+use Rattle.hc_effects.proofs.Vocabulary.{Act, Event, Request, Limits, Entry, History, no_contents, entry_without_acts, failures_in, IsOwed, tables}
 use Rattle.hc_event.specs.declared.event.Event.TheVariants as event
+use Rattle.hc_event.specs.Counting.{received_in}
+use Rattle.hc_core.specs.Steps as core
 use Rattle.hc_store.specs.declared.backend.Backend.{Ghosts}
 use Rattle.hc_laws.proofs.LawfulRuns.{lawful_in_runs}
-use Rattle.hc_core.specs.{declared.cache.Cache.{Cache}, Steps.{StandsFor, Answers, limits_in, last_moment, bytes_received, steps}}
-use Rattle.hc_fetch.specs.{declared.{fetching.Fetching.{Fetching}, first.First.{First}, plan.FetchPlan.{FetchPlan}}, Bounds.{AreFew, starts_allowed}, Fetches.{started, parts_start, cache_history, starts_behind}, Hearing.{HasStarted, KeepsRest, Begins, Starts}, Plans.{part_start, part_count, request_of, fields_for, last_position, first_start, first_fields}}
+use Rattle.hc_core.specs.{declared.cache.Cache.{Cache}, Steps.{StandsFor, Answers, limits_in, store_in, faults_in, last_moment, bytes_received, steps}}
+use Rattle.hc_fetch.specs.{declared.{fetching.Fetching.{Fetching}, first.First.{First}, plan.FetchPlan.{FetchPlan}}, Bounds.{AreFew, NeverFails, starts_allowed}, Fetches.{started, parts_start, cache_history, starts_behind}, Hearing.{HasStarted, KeepsRest, Begins, Starts, Steps}, Plans.{part_start, part_count, request_of, fields_for, last_position, first_start, first_fields}}
 use Rattle.hc_fetch.proofs.{Started.{few_live, none_started, started_more}, Starts.{start_silent}}
 
 -- ONE START
@@ -77,17 +79,17 @@ all_started plan now total h has (suc n) =
     subst (λ (k : ℕ). HasStarted (parts_start plan now total k ++ h) k) place one
 
 -- so far these consumers started, up to the one before this part
-pub record StartsOn (s u : Fetching) (now total count part : ℕ) : Type 0 where
+pub record StartsOn {B : Type 0} {g : Ghosts B} (s u : Fetching B g) (now total count part : ℕ) : Type 0 where
   pub rest : KeepsRest s u
   pub some : 2 ≤ part
   pub within : part ≤ max 2 (count + 1)
-  pub stands : (h : History) → StandsFor s.cache no_contents h → HasStarted h 1 →
+  pub stands : NeverFails g → (h : History) → StandsFor s.cache no_contents h → HasStarted h 1 →
       StandsFor u.cache no_contents (parts_start s.plan now total (part - 1) ++ h)
   pub moment : last_moment u.cache ≡ now
   pub received : bytes_received u.cache ≡ bytes_received s.cache
   pub few : steps u.cache + 2 ≡ steps s.cache + part
 
-others_on : (s t u : Fetching) → KeepsRest s t → KeepsRest t u → KeepsRest s u
+others_on : {B : Type 0} {g : Ghosts B} (s t u : Fetching B g) → KeepsRest s t → KeepsRest t u → KeepsRest s u
 others_on s t u one two = record {
   plan = two.plan ∙ one.plan;
   moment = two.moment ∙ one.moment;
@@ -100,21 +102,21 @@ others_on s t u one two = record {
 }
 
 -- one more starts
-pub starts_next : (s t u : Fetching) (now total count part : ℕ) (acts : List Act) → StartsOn s t now total count part → part < count + 1 → count ≤ 1000 →
-    KeepsRest t u → Answers t.cache u.cache now (part_start s.plan total part) acts → failures_in acts ≡ 0
+pub starts_next : {B : Type 0} {g : Ghosts B} (s t u : Fetching B g) (now total count part : ℕ) (acts : List Act) → StartsOn s t now total count part → part < count + 1 → count ≤ 1000 →
+    KeepsRest t u → Answers t.cache u.cache now (part_start s.plan total part) acts → (NeverFails g → failures_in acts ≡ 0)
     → last_moment u.cache ≡ now → bytes_received u.cache ≡ bytes_received t.cache → StartsOn s u now total count (part + 1)
-starts_next s t u now total count part acts q under few rest answered sound moment received = record {
+starts_next {g = g} s t u now total count part acts q under few rest answered sound moment received = record {
   rest = others_on s t u q.rest rest;
   some = (let some = q.some in omega (arith, some));
   within = omega (arith, under);
-  stands = λ h stands has. next h stands has;
+  stands = λ never h stands has. next never h stands has;
   moment = moment;
   received = received ∙ q.received;
   few = (let before = q.few in let one = answered.number in omega (arith, before, one));
 }
   where
-    next : (h : History) → StandsFor s.cache no_contents h → HasStarted h 1 → StandsFor u.cache no_contents (parts_start s.plan now total (part + 1 - 1) ++ h)
-    next h stands has =
+    next : NeverFails g → (h : History) → StandsFor s.cache no_contents h → HasStarted h 1 → StandsFor u.cache no_contents (parts_start s.plan now total (part + 1 - 1) ++ h)
+    next never h stands has =
         let some = q.some in
         let n : ℕ = part - 2 in
         let place : n + 1 ≡ part - 1 = omega (arith, some) in
@@ -122,7 +124,7 @@ starts_next s t u now total count part acts q under few rest answered sound mome
         let started : HasStarted (parts_start s.plan now total (part - 1) ++ h) (part - 1) =
         subst (λ (k : ℕ). HasStarted (parts_start s.plan now total k ++ h) k) place (all_started s.plan now total h has n) in
         let on = own_start t.cache u.cache now part (request_of s.plan (fields_for (Some ((part - 1) * s.plan.size, last_position s.plan total part))))
-        acts answered sound (parts_start s.plan now total (part - 1) ++ h) (part - 1) (q.stands h stands has) started whole (omega (arith, under, few)) in
+        acts answered (sound never) (parts_start s.plan now total (part - 1) ++ h) (part - 1) (q.stands never h stands has) started whole (omega (arith, under, few)) in
         let one : parts_start s.plan now total (part - 1 + 1) ≡ entry_without_acts now (part_start s.plan total (part - 1 + 1)) ∷
         parts_start s.plan now total (part - 1) = parts_next s.plan now total (part - 1) (omega (arith, some)) in
         let same : parts_start s.plan now total part ≡ entry_without_acts now (part_start s.plan total part) ∷ parts_start s.plan now total (part - 1) =
@@ -132,10 +134,10 @@ starts_next s t u now total count part acts q under few rest answered sound mome
         subst (λ (k : ℕ). StandsFor u.cache no_contents (parts_start s.plan now total k ++ h)) back
         (subst (λ (xs : History). StandsFor u.cache no_contents (xs ++ h)) (sym same) on)
 
-pub all_starts : (s u : Fetching) (now total count part : ℕ) → StartsOn s u now total count part → count ≤ 1000 → count + 1 ≤ part → Starts s u now total count
+pub all_starts : {B : Type 0} {g : Ghosts B} (s u : Fetching B g) (now total count part : ℕ) → StartsOn s u now total count part → count ≤ 1000 → count + 1 ≤ part → Starts s u now total count
 all_starts s u now total count part q few past = record {
   rest = q.rest;
-  stands = λ h stands has. by_count count refl h (q.stands h stands has);
+  stands = λ never h stands has. by_count count refl h (q.stands never h stands has);
   moment = q.moment;
   received = q.received;
   few = (let more = q.few in let within = q.within in omega (arith, more, within, few));
@@ -163,32 +165,51 @@ least_allowed None = omega arith
 least_allowed (Some first) = omega arith
 
 -- the first one started before
-pub begins_none : (s : Fetching) (now : ℕ) → 1 < s.count → last_moment s.cache ≤ now → AreFew (steps s.cache) (s.count - 1) s.first → Begins s s now
+pub begins_none : {B : Type 0} {g : Ghosts B} (s : Fetching B g) (now : ℕ) → 1 < s.count → last_moment s.cache ≤ now → AreFew (steps s.cache) (s.count - 1) s.first → Begins s s now
 begins_none s now more moment few = record {
   rest = record { plan = refl; moment = refl; count = refl; first = refl; ended = refl; gathered = refl; decided = refl; limits = refl };
-  stands = λ f behind. subst (StandsFor s.cache no_contents) (started_before s.plan now s.count f more behind.1) behind.0;
+  stands = λ never f behind. subst (StandsFor s.cache no_contents) (started_before s.plan now s.count f more behind.1) behind.0;
   moment = moment;
   received = refl;
   few = (let one = few.0 in let two = few.1 in (omega (arith, one, more), omega (arith, two, more)));
 }
 
-pub begins_one : (s u : Fetching) (now : ℕ) (acts : List Act) → s.count ≡ 1 → AreFew (steps s.cache) (s.count - 1) s.first → KeepsRest s u →
-    Answers s.cache u.cache now (first_start s.plan) acts → failures_in acts ≡ 0
+pub begins_one : {B : Type 0} {g : Ghosts B} (s u : Fetching B g) (now : ℕ) (acts : List Act) → s.count ≡ 1 → AreFew (steps s.cache) (s.count - 1) s.first → KeepsRest s u →
+    Answers s.cache u.cache now (first_start s.plan) acts → (NeverFails g → failures_in acts ≡ 0)
     → last_moment u.cache ≡ now → bytes_received u.cache ≡ bytes_received s.cache → Begins s u now
 begins_one s u now acts one few rest answered sound moment received = record {
   rest = rest;
-  stands = λ f behind. begins_first s.cache u.cache s.plan now s.count acts answered sound (omega (arith, one)) f behind.0 behind.1;
+  stands = λ never f behind. begins_first s.cache u.cache s.plan now s.count acts answered (sound never) (omega (arith, one)) f behind.0 behind.1;
   moment = omega (arith, moment);
   received = received;
   few = (let none = few.1 in let number = answered.number in let least = least_allowed s.first in
       (omega (arith, none, number, least, one), omega (arith, none, number, one)));
 }
 
--- COUNTS
+-- AN EVENT
 
 -- a store that counts no failure tells none
-pub none_counted : (n : ℕ) → 0 + n ≤ 0 → n ≡ 0
-none_counted n counted = omega (arith, counted)
+pub none_counted : {B : Type 0} {g : Ghosts B} (s u : Cache B g) (n : ℕ) → faults_in s + n ≤ faults_in u → NeverFails g → n ≡ 0
+none_counted s u n counted never = let same = never (store_in u) (store_in s) in omega (arith, counted, same)
+
+pub step_on : {B : Type 0} {g : Ghosts B} (s t u : Fetching B g) (now : ℕ) (event : Event) (before out : List Act) → Begins s t now → before ≡ [] →
+    core.Steps t.cache u.cache before out now event → last_moment u.cache ≡ now → bytes_received u.cache ≡ bytes_received t.cache + received_in event →
+    KeepsRest t u → Steps s u now event out
+step_on s t u now event before out begins none stepped moment received rest =
+    let acts_are : out ≡ stepped.acts = stepped.reported ∙ ap (λ (l : List Act). l ++ stepped.acts) none in
+    record {
+      rest = others_on s t u begins.rest rest;
+      stands = λ never f behind. subst
+          (λ (l : List Act). StandsFor u.cache no_contents (record { now = now; event = event; acts = l } ∷ started s.plan now (cache_history s.plan f)))
+          (sym acts_are) (stepped.answered.stands no_contents (started s.plan now (cache_history s.plan f)) (begins.stands never f behind));
+      sound = λ never. subst (λ (l : List Act). failures_in l ≡ 0) (sym acts_are)
+          (none_counted t.cache u.cache (failures_in stepped.acts) stepped.answered.counted never);
+      moment = moment;
+      received = received ∙ ap (λ (n : ℕ). n + received_in event) begins.received;
+      few = subst (λ (n : ℕ). AreFew n s.count s.first) (sym stepped.answered.number) begins.few;
+    }
+
+-- COUNTS
 
 -- and an event without bytes brings none
 pub none_came : (a b : ℕ) → a ≡ b + 0 → a ≡ b

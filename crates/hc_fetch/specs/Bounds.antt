@@ -1,6 +1,7 @@
 -- What a fetch may have: its plan, and how many steps its cache made.
 use Rattle.std.specs.Prelude.{◌≡◌, ℕ, ◌+◌, ◌*◌, ◌≤◌, ◌^◌, nat_lt, Bool, true, Option, Some, None}
 use Rattle.hc_target.specs.Targets.{is_target}
+use Rattle.hc_store.specs.declared.backend.Backend.{Ghosts}
 use Rattle.hc_fetch.specs.declared.first.First.{First}
 use Rattle.hc_fetch.specs.declared.plan.FetchPlan.{FetchPlan}
 
@@ -10,6 +11,10 @@ pub record IsPlan (plan : FetchPlan) : Type 0 where
   pub parts : plan.parts ≤ 1000
   pub some_bytes : 1 ≤ plan.size
   pub size : plan.size ≤ 2 ^ 40
+
+-- no call of such a store counts a failure
+abbrev pub NeverFails : {B : Type 0} → Ghosts B → Type 0
+NeverFails {B} g = (a b : B) → g.faults a ≡ g.faults b
 
 -- a length that is known is below 2 ^ 62
 abbrev pub is_short : Option ℕ → Bool

@@ -1,5 +1,5 @@
 -- What decides how a fetch ends, before its input does.
-use Rattle.std.specs.Prelude.{◌==◌, ◌&&◌, ◌||◌, not, List, [], ◌∷◌, Bool, true, false, Option, Some, None, is_some, is_none, if◌then◌else◌}
+use Rattle.std.specs.Prelude.{◌≡◌, ◌==◌, ◌&&◌, ◌||◌, not, List, [], ◌∷◌, Bool, true, false, Option, Some, None, is_some, is_none, if◌then◌else◌}
 use Rattle.std.specs.Option.{option_or}
 use Rattle.hc_event.specs.declared.act.Act.{Act}
 use Rattle.hc_event.specs.declared.act.Act.TheVariants as act
@@ -21,6 +21,15 @@ is_foreign _ = false
 abbrev pub has_foreign : History → Bool
 has_foreign [] = false
 has_foreign (e ∷ f) = is_foreign e.event || has_foreign f
+
+-- a fetch decides so by itself: neither its input nor its output failed
+abbrev pub is_own : FetchEnded → Bool
+is_own ended.SourceFailed = false
+is_own ended.SinkFailed = false
+is_own _ = true
+
+abbrev pub IsOwn : FetchEnded → Type 0
+IsOwn by = is_own by ≡ true
 
 -- a consumer fails
 abbrev pub by_failure : List Act → Option FetchEnded

@@ -10,10 +10,11 @@ use Rattle.hc_model.specs.Flaws.{failures_in}
 use Rattle.hc_model.specs.Tables.{tables}
 use Rattle.hc_core.specs.Steps.{StandsFor, limits_in, bytes_received, last_moment, steps}
 use Rattle.hc_event.specs.Counting.{received_in}
+use Rattle.hc_store.specs.declared.backend.Backend.{Ghosts}
 use Rattle.hc_fetch.specs.declared.ended.FetchEnded.{FetchEnded}
 use Rattle.hc_fetch.specs.declared.fetching.Fetching.{Fetching}
 use Rattle.hc_fetch.specs.Ahead.{Fit, KeepsAll, Appends}
-use Rattle.hc_fetch.specs.Bounds.{AreFew}
+use Rattle.hc_fetch.specs.Bounds.{AreFew, NeverFails}
 use Rattle.hc_fetch.specs.Deciding.{by_head, by_heads}
 use Rattle.hc_fetch.specs.Fetches.{cache_history, started, parts_start, ends_in}
 use Rattle.hc_fetch.specs.Firsts.{first_as}
@@ -21,7 +22,7 @@ use Rattle.hc_fetch.specs.Gathering.{gathered_in}
 use Rattle.hc_fetch.specs.Heads.{Head, heads_in, first_in}
 
 -- all but the cache is as it was
-pub record KeepsRest (s u : Fetching) : Type 0 where
+pub record KeepsRest {B : Type 0} {g : Ghosts B} (s u : Fetching B g) : Type 0 where
   pub plan : u.plan ≡ s.plan
   pub moment : u.moment ≡ s.moment
   pub count : u.count ≡ s.count
@@ -34,24 +35,24 @@ pub record KeepsRest (s u : Fetching) : Type 0 where
 -- THE CACHE'S STEPS
 
 -- The cache answers the next event, or is to answer it, behind so many events.
-abbrev pub IsBehind : Fetching → History → Type 0
+abbrev pub IsBehind : {B : Type 0} {g : Ghosts B} → Fetching B g → History → Type 0
 IsBehind s f = StandsFor s.cache no_contents (cache_history s.plan f) × (s.count ≡ length f + 1)
 
 -- Where nothing happened yet, the first consumer started.
-pub record Begins (s u : Fetching) (now : ℕ) : Type 0 where
+pub record Begins {B : Type 0} {g : Ghosts B} (s u : Fetching B g) (now : ℕ) : Type 0 where
   pub rest : KeepsRest s u
-  pub stands : (f : History) → IsBehind s f →
+  pub stands : NeverFails g → (f : History) → IsBehind s f →
       StandsFor u.cache no_contents (started s.plan now (cache_history s.plan f))
   pub moment : last_moment u.cache ≤ now
   pub received : bytes_received u.cache ≡ bytes_received s.cache
   pub few : AreFew (steps u.cache + 1) s.count s.first
 
 -- The cache answered an event by these acts; before the first one the first consumer started.
-pub record Steps (s u : Fetching) (now : ℕ) (event : Event) (acts : List Act) : Type 0 where
+pub record Steps {B : Type 0} {g : Ghosts B} (s u : Fetching B g) (now : ℕ) (event : Event) (acts : List Act) : Type 0 where
   pub rest : KeepsRest s u
-  pub stands : (f : History) → IsBehind s f → StandsFor u.cache no_contents
+  pub stands : NeverFails g → (f : History) → IsBehind s f → StandsFor u.cache no_contents
       (record { now = now; event = event; acts = acts } ∷ started s.plan now (cache_history s.plan f))
-  pub sound : failures_in acts ≡ 0
+  pub sound : NeverFails g → failures_in acts ≡ 0
   pub moment : last_moment u.cache ≡ now
   pub received : bytes_received u.cache ≡ bytes_received s.cache + received_in event
   pub few : AreFew (steps u.cache) s.count s.first
@@ -62,9 +63,9 @@ pub record HasStarted (h : History) (n : ℕ) : Type 0 where
   pub starts : length (tables no_contents h).starts ≤ n
 
 -- the consumers of the other parts started, of so many bytes in all
-pub record Starts (s u : Fetching) (now total count : ℕ) : Type 0 where
+pub record Starts {B : Type 0} {g : Ghosts B} (s u : Fetching B g) (now total count : ℕ) : Type 0 where
   pub rest : KeepsRest s u
-  pub stands : (h : History) → StandsFor s.cache no_contents h → HasStarted h 1 →
+  pub stands : NeverFails g → (h : History) → StandsFor s.cache no_contents h → HasStarted h 1 →
       StandsFor u.cache no_contents (parts_start s.plan now total count ++ h)
   pub moment : last_moment u.cache ≡ now
   pub received : bytes_received u.cache ≡ bytes_received s.cache
@@ -73,7 +74,7 @@ pub record Starts (s u : Fetching) (now total count : ℕ) : Type 0 where
 -- WHAT IS TAKEN OF ACTS
 
 -- all but what acts tell is as it was
-pub record KeepsOthers (s u : Fetching) : Type 0 where
+pub record KeepsOthers {B : Type 0} {g : Ghosts B} (s u : Fetching B g) : Type 0 where
   pub plan : u.plan ≡ s.plan
   pub cache : u.cache ≡ s.cache
   pub moment : u.moment ≡ s.moment
@@ -81,7 +82,7 @@ pub record KeepsOthers (s u : Fetching) : Type 0 where
   pub decided : u.decided ≡ s.decided
 
 -- A head was seen: what it decides, and what it shows first.
-pub record Sees (s u : Fetching) (head : Head) (result : Option FetchEnded) : Type 0 where
+pub record Sees {B : Type 0} {g : Ghosts B} (s u : Fetching B g) (head : Head) (result : Option FetchEnded) : Type 0 where
   pub others : KeepsOthers s u
   pub ended : u.has_ended ≡ s.has_ended
   pub gathered : u.gathered ≡ s.gathered
@@ -97,7 +98,7 @@ AllFit (act.Given c x at bytes ∷ acts) g = Fit g at bytes × AllFit acts (cell
 AllFit (_ ∷ acts) g = AllFit acts g
 
 -- These acts were taken behind what was decided before: what they decide, show, give and end, and what of it can be written.
-pub record Takes (s u : Fetching) (acts : List Act) (before after : List ℕ) (was result : Option FetchEnded) : Type 0 where
+pub record Takes {B : Type 0} {g : Ghosts B} (s u : Fetching B g) (acts : List Act) (before after : List ℕ) (was result : Option FetchEnded) : Type 0 where
   pub others : KeepsOthers s u
   pub decides : (first : Option Head) → s.first ≡ first_as first →
       result ≡ option_or was (by_heads s.plan first (heads_in acts))

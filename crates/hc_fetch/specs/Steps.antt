@@ -6,11 +6,12 @@ use Rattle.hc_event.specs.Counting.{received_in}
 use Rattle.hc_model.specs.Entries.{Entry, History, no_contents}
 use Rattle.hc_model.specs.Tables.{tables}
 use Rattle.hc_core.specs.Steps.{StandsFor, limits_in, bytes_received, last_moment, steps}
+use Rattle.hc_store.specs.declared.backend.Backend.{Ghosts}
 use Rattle.hc_fetch.specs.declared.ended.FetchEnded.{FetchEnded}
 use Rattle.hc_fetch.specs.declared.ended.FetchEnded.TheVariants as ended
 use Rattle.hc_fetch.specs.declared.fetching.Fetching.{Fetching}
 use Rattle.hc_fetch.specs.Ahead.{KeepsAll}
-use Rattle.hc_fetch.specs.Bounds.{AreFew}
+use Rattle.hc_fetch.specs.Bounds.{AreFew, NeverFails}
 use Rattle.hc_fetch.specs.Deciding.{is_foreign, has_foreign, decided_by, is_undecided}
 use Rattle.hc_fetch.specs.Endings.{failures}
 use Rattle.hc_fetch.specs.Fetches.{cache_history, has_ended}
@@ -20,8 +21,9 @@ use Rattle.hc_fetch.specs.Heads.{first_head}
 
 -- WHAT IT STANDS FOR
 
--- what it heard is what these events told, whether or not the last one decided
-pub record HasHeard (s : Fetching) (f : History) : Type 0 where
+-- what it heard is what these events told, whether or not the last one decided, over a store that never fails
+pub record HasHeard {B : Type 0} {g : Ghosts B} (s : Fetching B g) (f : History) : Type 0 where
+  pub never : NeverFails g
   pub stands : StandsFor s.cache no_contents (cache_history s.plan f)
   pub sound : failures f ≡ 0
   pub own : has_foreign f ≡ false
@@ -30,14 +32,14 @@ pub record HasHeard (s : Fetching) (f : History) : Type 0 where
   pub written : s.gathered.written ≡ length (written_of f)
 
 -- and none of them decided
-pub record HasHeardOpen (s : Fetching) (f : History) : Type 0 where
+pub record HasHeardOpen {B : Type 0} {g : Ghosts B} (s : Fetching B g) (f : History) : Type 0 where
   pub heard : HasHeard s f
   pub undecided : is_undecided s.plan f ≡ true
   pub first : s.first ≡ first_as (first_head f)
   pub ended : s.has_ended ≡ has_ended 1 f
 
 -- it is open behind these, and counted them
-pub record StandsForFetch (s : Fetching) (f : History) : Type 0 where
+pub record StandsForFetch {B : Type 0} {g : Ghosts B} (s : Fetching B g) (f : History) : Type 0 where
   pub so_far : HasHeardOpen s f
   pub count : s.count ≡ length f
   pub is_open : s.decided ≡ None
@@ -45,7 +47,7 @@ pub record StandsForFetch (s : Fetching) (f : History) : Type 0 where
 -- ONE EVENT
 
 -- Behind events that it heard, one more was answered, which decides so, and this text is written.
-pub record HearsMore (s u : Fetching) (e : Entry) (f : History) (text : List ℕ) (result : Option FetchEnded) : Type 0 where
+pub record HearsMore {B : Type 0} {g : Ghosts B} (s u : Fetching B g) (e : Entry) (f : History) (text : List ℕ) (result : Option FetchEnded) : Type 0 where
   pub heard : HasHeard u (e ∷ f)
   pub decides : result ≡ decided_by s.plan f e.acts
   pub first : u.first ≡ first_as (first_head (e ∷ f))
@@ -53,7 +55,7 @@ pub record HearsMore (s u : Fetching) (e : Entry) (f : History) (text : List ℕ
   pub writes : written_of f ++ text ≡ written_of (e ∷ f)
 
 -- Acts answered the event, which was counted before.
-pub record IsAnswered (s u : Fetching) (now : ℕ) (event : Event) (text : List ℕ) (decides : Option FetchEnded) : Type 0 where
+pub record IsAnswered {B : Type 0} {g : Ghosts B} (s u : Fetching B g) (now : ℕ) (event : Event) (text : List ℕ) (decides : Option FetchEnded) : Type 0 where
   pub acts : List Act
   pub plan : u.plan ≡ s.plan
   pub moment : u.moment ≡ s.moment
@@ -66,14 +68,14 @@ pub record IsAnswered (s u : Fetching) (now : ℕ) (event : Event) (text : List 
       HearsMore s u (record { now = now; event = event; acts = acts }) f text decides
 
 -- Behind events for which it stood, one more was answered: it decided, or the fetch stands for that too.
-pub record Hears (s u : Fetching) (e : Entry) (f : History) (text : List ℕ) : Type 0 where
+pub record Hears {B : Type 0} {g : Ghosts B} (s u : Fetching B g) (e : Entry) (f : History) (text : List ℕ) : Type 0 where
   pub heard : HasHeard u (e ∷ f)
   pub decided : u.decided ≡ decided_by s.plan f e.acts
   pub goes_on : u.decided ≡ None → StandsForFetch u (e ∷ f)
   pub writes : written_of f ++ text ≡ written_of (e ∷ f)
 
 -- Acts answered the event, behind whatever events the fetch stood for.
-pub record Answers (s : Fetching) (now : ℕ) (event : Event) (text : List ℕ) (u : Fetching) : Type 0 where
+pub record Answers {B : Type 0} {g : Ghosts B} (s : Fetching B g) (now : ℕ) (event : Event) (text : List ℕ) (u : Fetching B g) : Type 0 where
   pub acts : List Act
   pub plan : u.plan ≡ s.plan
   pub limits : limits_in u.cache ≡ limits_in s.cache
@@ -81,7 +83,7 @@ pub record Answers (s : Fetching) (now : ℕ) (event : Event) (text : List ℕ) 
       Hears s u (record { now = now; event = event; acts = acts }) f text
 
 -- A foreign event decides and isn't stepped; each other one is answered.
-pub data Reports (s : Fetching) (number now : ℕ) (event : Event) (text : List ℕ) (u : Fetching) : Type 0 where
+pub data Reports {B : Type 0} {g : Ghosts B} (s : Fetching B g) (number now : ℕ) (event : Event) (text : List ℕ) (u : Fetching B g) : Type 0 where
   foreign : is_foreign event ≡ true → text ≡ [] → u.decided ≡ Some (ended.Foreign (s.count + 1)) →
       Reports s number now event text u
   answered : is_foreign event ≡ false → Answers s now event text u → Reports s number now event text u

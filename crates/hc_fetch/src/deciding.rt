@@ -1,6 +1,6 @@
 //! What decides how a fetch ends, before its input does.
-ghost use Rattle.std.specs.Prelude.{◌≡◌, ℕ, Option, is_some};
-ghost use Rattle.hc_fetch.specs.Deciding.{by_failure, by_head, fits, is_foreign};
+ghost use Rattle.std.specs.Prelude.{◌≡◌, ℕ, Option, IfSome, is_some};
+ghost use Rattle.hc_fetch.specs.Deciding.{IsOwn, by_failure, by_head, fits, is_foreign};
 ghost use Rattle.hc_fetch.specs.Firsts.{by_first, first_as};
 ghost use Rattle.hc_fetch.specs.Heads.{Head};
 
@@ -19,7 +19,8 @@ pub(crate) fn is_foreign(event: &Event) -> bool
 
 /// A consumer fails.
 pub(crate) fn failure_in(acts: &[Act]) -> Option<FetchEnded>
-    ensures { result ≡ by_failure acts.now }
+    ensures decides { result ≡ by_failure acts.now }
+    ensures own { IfSome result IsOwn }
 {
     for act in acts {
         if let Act::Failed { c, cause } = act {
@@ -34,7 +35,8 @@ pub(crate) fn failure_in(acts: &[Act]) -> Option<FetchEnded>
 
 /// It is shown another representation than the first consumer was.
 fn other(first: Option<First>, c: u64, r: u64) -> Option<FetchEnded>
-    ensures { result ≡ by_first first c r }
+    ensures decides { result ≡ by_first first c r }
+    ensures own { IfSome result IsOwn }
 {
     let first = first?;
     if r == first.r {
@@ -58,9 +60,10 @@ impl FetchPlan {
         status: u16,
         fields: &Fields,
     ) -> Option<FetchEnded>
-        ensures { (before : Option Head) → first ≡ first_as before → result
+        ensures decides { (before : Option Head) → first ≡ first_as before → result
             ≡ by_head self.now before
             (record { c = c; r = r; status = status; fields = fields.now }) }
+        ensures own { IfSome result IsOwn }
     {
         if self.fits(first.is_some(), c, status, fields) {
             other(first, c, r)

@@ -1,8 +1,9 @@
 //! A fetch, event by event.
-ghost use Rattle.std.specs.Prelude.{◌≡◌, ◌≤◌, None, true};
+ghost use Rattle.std.specs.Prelude.{◌≡◌, ◌≤◌, None, true, IfSome};
 ghost use Rattle.std.proofs.Props.{props};
 ghost use Rattle.hc_core.specs.Steps.{last_moment, steps};
 ghost use Rattle.hc_fetch.specs.Bounds.{AreFew, IsPlan, is_short};
+ghost use Rattle.hc_fetch.specs.Deciding.{IsOwn};
 ghost use Rattle.hc_fetch.specs.Firsts.{total_in};
 
 use crate::deciding::{failure_in, is_foreign};
@@ -14,16 +15,16 @@ use hc_core::Cache;
 use hc_driver::Course;
 use hc_event::{Act, Acts, Event};
 use hc_fields::Fields;
-use hc_store::Memory;
+use hc_store::Backend;
 use hc_text::NoMemory;
 use std::alloc::Global;
 
 /// A fetch, event by event.
 #[derive(Drop)]
-pub(crate) struct Fetching {
+pub(crate) struct Fetching<B: Backend> {
     alloc: Global,
     plan: FetchPlan,
-    cache: Cache<Memory>,
+    cache: Cache<B>,
     moment: u64,
     /// How many events of the input were answered.
     count: u64,
@@ -35,11 +36,12 @@ pub(crate) struct Fetching {
     decided: Option<FetchEnded>,
     ghost planned: { IsPlan plan },
     ghost later: { decided ≡ None → last_moment cache ≤ moment } by { Prim.hlevel props },
+    ghost own: { IfSome decided IsOwn } by { Prim.hlevel props },
     ghost short: { is_short (total_in first) ≡ true },
     ghost few: { decided ≡ None → AreFew (steps cache) count first } by { Prim.hlevel props },
 }
 
-impl Fetching {
+impl<B: Backend> Fetching<B> {
     ghost use Rattle.std.specs.Prelude.{◌+◌, ◌-◌, ◌<◌, ◌^◌, ℕ, Some, is_some, false, IfOk, OnOk, ◌∷◌, []};
     ghost use Rattle.hc_event.specs.Counting.{received_in};
     ghost use Rattle.hc_event.specs.WithinLimits.{IsEventWithinLimits};
@@ -55,15 +57,16 @@ impl Fetching {
     ghost use Rattle.hc_fetch.specs.Steps.{IsAnswered, StandsForFetch};
 
     /// Nothing happened yet.
-    pub(crate) fn new(alloc: Global, plan: FetchPlan, cache: Cache<Memory>) -> Fetching
+    pub(crate) fn new(alloc: Global, plan: FetchPlan, cache: Cache<B>) -> Fetching<B>
         requires unused { steps cache ≡ 0 }
         requires plan { IsPlan plan }
         requires new { StandsFor cache no_contents [] }
-        ensures stands { StandsForFetch result [] }
+        ensures stands { ((a b : B) → B.faults a ≡ B.faults b) → StandsForFetch result [] }
         ensures plan { result.plan ≡ plan }
         ensures cache { result.cache ≡ cache }
         ensures moment { result.moment ≡ last_moment cache }
         ensures none { result.count ≡ 0 }
+        ensures open { result.decided ≡ None }
     {
         let moment = cache.last_moment();
         Fetching {
@@ -96,8 +99,9 @@ impl Fetching {
         requires small { bytes_received self.old.cache + received_in event.now < 2 ^ 61 }
         requires answering { is_some self.old.decided ≡ true }
         requires empty { text.old.items ≡ [] }
-        ensures { IfOk result (λ decides. IsAnswered self.old self.new now event.now
+        ensures answered { IfOk result (λ decides. IsAnswered self.old self.new now event.now
             text.new.items decides) }
+        ensures own { IfOk result (λ decides. IfSome decides IsOwn) }
     {
         let was_shown = self.first.is_some();
         self.step(now, event, acts)?;
@@ -134,7 +138,8 @@ impl Fetching {
     {
         self.begin(now, acts)?;
         acts.clear();
-        self.cache.step(now, event, acts)
+        self.cache.step(now, event, acts)?;
+        Ok(())
     }
 
     /// The first consumer starts, where nothing happened yet.
@@ -179,8 +184,9 @@ impl Fetching {
     /// Takes what was answered: what can be written now is appended. Gives what it decides.
     fn hear(&mut self, acts: &[Act], text: &mut Vec<u8>) -> Result<Option<FetchEnded>, NoMemory>
         requires answering { is_some self.old.decided ≡ true }
-        ensures { IfOk result (λ decides. Takes self.old self.new acts.now
+        ensures takes { IfOk result (λ decides. Takes self.old self.new acts.now
             text.old.items text.new.items (by_failure acts.now) decides) }
+        ensures own { IfOk result (λ decides. IfSome decides IsOwn) }
     {
         let mut decides = failure_in(acts);
         for act in acts {
@@ -192,8 +198,9 @@ impl Fetching {
     /// Takes one act.
     fn hear_act(&mut self, act: &Act, text: &mut Vec<u8>) -> Result<Option<FetchEnded>, NoMemory>
         requires answering { is_some self.old.decided ≡ true }
-        ensures { IfOk result (λ decides. Takes self.old self.new (act.now ∷ [])
+        ensures takes { IfOk result (λ decides. Takes self.old self.new (act.now ∷ [])
             text.old.items text.new.items None decides) }
+        ensures own { IfOk result (λ decides. IfSome decides IsOwn) }
     {
         match act {
             Act::Shown {
@@ -218,8 +225,9 @@ impl Fetching {
     /// A consumer is shown a head. Gives what it decides.
     fn see(&mut self, c: u64, r: u64, status: u16, fields: &Fields) -> Option<FetchEnded>
         requires answering { is_some self.old.decided ≡ true }
-        ensures { Sees self.old self.new
+        ensures sees { Sees self.old self.new
             (record { c = c; r = r; status = status; fields = fields.now }) result }
+        ensures own { IfSome result IsOwn }
     {
         let decides = self.plan.decision(self.first, c, r, status, fields);
         if c == 1 && self.first.is_none() {
@@ -235,6 +243,7 @@ impl Fetching {
     pub(crate) fn answer(&self) -> FetchEnded
         ensures decided { (by : FetchEnded) → self.now.decided ≡ Some by → result ≡ by }
         ensures open { (f : History) → StandsForFetch self.now f → result ≡ ended_with f }
+        ensures own { IsOwn result }
     {
         match self.decided {
             Some(decided) => decided,
@@ -244,7 +253,8 @@ impl Fetching {
 
     /// How it ends with its input, where nothing was decided.
     fn ended(&self) -> FetchEnded
-        ensures { (f : History) → StandsForFetch self.now f → result ≡ ended_with f }
+        ensures ended { (f : History) → StandsForFetch self.now f → result ≡ ended_with f }
+        ensures own { IsOwn result }
     {
         let written = self.gathered.written();
         if self.is_done() {
@@ -273,7 +283,7 @@ impl Fetching {
 }
 
 /// An event is answered by what can be written then. It is over once how it ends is decided.
-impl Course for Fetching {
+impl<B: Backend> Course for Fetching<B> {
     ghost use Rattle.std.specs.Prelude.{is_some};
     ghost use Rattle.hc_core.specs.Steps.{bytes_received};
     ghost use Rattle.hc_fetch.specs.Steps.{Reports};

@@ -15,14 +15,14 @@ use hc_core::Cache;
 use hc_driver::go_through;
 use hc_io::{Sink, Source};
 use hc_sched::Ended;
-use hc_store::Memory;
+use hc_store::Backend;
 use std::alloc::Global;
 
 /// Reads one resource in parts, by consumers of the cache whose polls and network events the schedule
 /// has, and writes its body in order. The cache is as `Cache::new` made it.
-pub fn fetch<S: Source, K: Sink>(
+pub fn fetch<B: Backend + Drop, S: Source, K: Sink>(
     alloc: Global,
-    cache: Cache<Memory>,
+    cache: Cache<B>,
     plan: FetchPlan,
     turns: &mut S,
     sink: &mut K,
@@ -30,8 +30,10 @@ pub fn fetch<S: Source, K: Sink>(
     requires new { StandsFor cache no_contents [] }
     requires unused { steps cache + bytes_received cache ≡ 0 }
     requires plan { IsPlan plan }
-    ensures ends { Fetches (limits_in cache) plan (S.left turns.old) (S.left turns.new)
-        (K.taken sink.old) (K.taken sink.new) result }
+
+    // Over a store whose count of failures is constant.
+    ensures ends { ((a b : B) → B.faults a ≡ B.faults b) → Fetches (limits_in cache) plan
+        (S.left turns.old) (S.left turns.new) (K.taken sink.old) (K.taken sink.new) result }
 
     // A fault comes only where one was counted, and none is counted where none comes.
     ensures source { result ≡ ended.SourceFailed

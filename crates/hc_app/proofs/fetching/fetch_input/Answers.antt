@@ -12,7 +12,7 @@ pub returns-clause-does : goal.returns-clause-does
 returns-clause-does g c =
     does_fetch c.args.plan _ _ _ _ _ _ _ _ _ _ c.fetch-end.result c.conclude_fetch.result
     (subst (λ (l : Limits). Fetches l c.args.plan (g.S.Source.left c.args.input.now) (g.S.Source.left c.fetch-end.new.turns)
-    (g.K.Sink.taken c.args.out.now) (g.K.Sink.taken c.fetch-end.new.sink) c.fetch-end.result) c.in-Ok.ensures.limits c.fetch-end.ensures.ends)
+    (g.K.Sink.taken c.args.out.now) (g.K.Sink.taken c.fetch-end.new.sink) c.fetch-end.result) c.in-Ok.ensures.limits (c.fetch-end.ensures.ends (λ a b. refl)))
     c.conclude_fetch.ensures c.fetch-end.ensures.sink c.fetch-end.ensures.sink_calm
 
 pub returns-clause-stream_faults : goal.returns-clause-stream_faults

@@ -97,7 +97,7 @@ class Adapter(HTTPAdapter):
         if self._process != os.getpid():
             self._begin_in_child()
         self.drain()
-        asked = asked_by(request.url, header_lines(request))
+        asked = asked_of(request)
         answer = self._answer(asked, request, stream, {"timeout": timeout, "verify": verify, "cert": cert, "proxies": proxies})
         if request.method not in SAFE and answer.status_code < 400:
             self._pool.doom_others(asked.name)
@@ -168,12 +168,6 @@ def mount(session: requests.Session, store: str | os.PathLike[str] | None = None
     return adapter
 
 
-def header_lines(request: requests.PreparedRequest) -> tuple[tuple[str | bytes, str | bytes], ...]:
-    """The lines of the header of a request, with names in lower case."""
-    headers = request.headers
-    return tuple(headers.lower_items() if isinstance(headers, CaseInsensitiveDict) else [(name.lower(), headers[name]) for name in headers])
-
-
 @dataclass(slots=True)
 class Asked:
     """What a request asks for: the name of the resource, and its lines as a cache is told them, or None where it can't be."""
@@ -182,14 +176,21 @@ class Asked:
     fields: Lines | None
 
 
+def asked_of(request: requests.PreparedRequest) -> Asked:
+    """What the request asks for."""
+    headers = request.headers
+    return _asked_of(request.url, tuple(headers._store.values() if isinstance(headers, CaseInsensitiveDict) else headers.items()))
+
+
 @functools.lru_cache(1024)
-def asked_by(url: str | bytes, lines: tuple[tuple[str | bytes, str | bytes], ...]) -> Asked:
-    """What a request with such a header asks for. (Most requests of a session have the same.)"""
-    name = name_of(as_text(url), dict(lines).get("authorization"))
+def _asked_of(url: str | bytes, lines: tuple[tuple[str | bytes, str | bytes], ...]) -> Asked:
+    """(Most requests of a session have the same header.)"""
+    plain = [(as_text(name).lower(), value) for name, value in lines]
+    resource = name_of(as_text(url), dict(plain).get("authorization"))
     try:
-        return Asked(name, tuple(text.sorted_fields([(as_text(name), as_text(value)) for name, value in lines])))
+        return Asked(resource, tuple(text.sorted_fields([(name, as_text(value)) for name, value in plain])))
     except Refused:
-        return Asked(name, None)
+        return Asked(resource, None)
 
 
 class Answer(Source):

@@ -1,5 +1,5 @@
 -- How the serving loop ended, and what was bound for it.
-use Rattle.std.{proofs.Common.{◌≡◌, ◌≢◌, ℕ, List, Option, refl}}
+use Rattle.std.proofs.Common.{◌≡◌, ◌≢◌, ℕ, List, Option, refl}
 use Rattle.hc_sched.specs.declared.schedule.Ended.{Ended}
 use Rattle.hc_sched.specs.declared.schedule.Ended.TheVariants as ended
 use Rattle.hc_wire.specs.{Logs.{Log}, declared.event.{Address.{Address}, WireError.{WireError}}}

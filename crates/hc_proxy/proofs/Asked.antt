@@ -12,8 +12,7 @@ use Rattle.hc_msg.specs.{NextParts.{IsReadOn}, Reading.{Reading, Requests, Token
 use Rattle.hc_msg.proofs.Leading.{leads_on}
 use Rattle.hc_wire.specs.Logs.{Called}
 use Rattle.hc_wire.specs.declared.event.WireEvent.TheVariants as wire
-use Rattle.hc_peers.specs.Renderings.{asked_of, asking_of}
-use Rattle.hc_peers.specs.declared.reply.Asking.{Asking}
+use Rattle.hc_peers.specs.{Renderings.{asked_of, asking_of}, declared.reply.Asking.{Asking}}
 use Rattle.hc_proxy.specs.{Asked.{got_by, got_from, is_at, started_by, starts_of, count_by, starts_in, IsNextStart, AreClients}, Connections.{is_dialled, place_from, exchange_of}, Invariants.{IsOfRequests}, Rows.{Client, with}, Starts.{read_to}}
 use Rattle.hc_proxy.proofs.NetworkKeeps.{is_of_exchange}
 

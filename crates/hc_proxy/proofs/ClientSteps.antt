@@ -13,8 +13,7 @@ use Rattle.hc_laws.proofs.LiveAfter.{Starts, was_live}
 use Rattle.hc_msg.specs.{Inputs.{Next, Waits, Reports, Brings, Ends, Fails, next_in}, NextParts.{StandsNext}, Reading.{Reading, Heading, Requests, Failed, Token, Asks, Answers, Byte}}
 use Rattle.hc_msg.proofs.{Leading.{reports_leads}, NextParts.{stands_next}}
 use Rattle.hc_wire.specs.Logs.{Called}
-use Rattle.hc_peers.specs.Renderings.{asked_of, reply_to, asking_of}
-use Rattle.hc_peers.specs.declared.reply.Asking.{Asking}
+use Rattle.hc_peers.specs.{Renderings.{asked_of, reply_to, asking_of}, declared.reply.Asking.{Asking}}
 use Rattle.hc_proxy.specs.{Asked.{is_at, started_by, starts_of, count_by, starts_in, AreClients}, Carrying.{acts_in}, Handling.{clients_here}, Rendered.{answer_to, consumer_by, consumers_of, error_answer}, Rows.{Client, Upstream, Proxy, with, with_client}, Starts.{read_to, asks, with_holder, started, refused, hears_request, hears, hears_if, is_ready, each_heard, started_all}, Steps.{with_entry, stepped}, Waiting.{is_poll}}
 use Rattle.hc_proxy.proofs.{Asked.{IsOther, other_starts, other_count, other_next, starts_kept, clients_kept, IsRead, alike, reads_on, read_all, all_read}, ConsumersOf.{other_consumers, consumers_kept, consumers_below}, NextAsks.{IsHead, of_head, IsNextAsked, next_asks, ready_idle}, Owings.{Owes, owes_read, owes_refused, owes_asks}, QuietActs.{AreQuiet, quiet_both, is_quiet_entry}, Stands.{Stands, law_of, owed_here, goes_on}, StaysOver.{HasOver, over_keeps}}
 

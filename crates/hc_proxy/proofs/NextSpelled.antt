@@ -4,8 +4,7 @@ use Rattle.hc_effects.proofs.Vocabulary.{event, Request, Response}
 use Rattle.hc_condition.specs.NotModified.{unconditioned}
 use Rattle.hc_fields.specs.FieldList.{without}
 use Rattle.hc_fields.proofs.Edits.{IsFieldList-without}
-use Rattle.hc_head.specs.declared.message.WireRequest.{WireRequest}
-use Rattle.hc_head.specs.Spellings.{IsMethod, IsSpelledRequest, IsSpelledResponse}
+use Rattle.hc_head.specs.{declared.message.WireRequest.{WireRequest}, Spellings.{IsMethod, IsSpelledRequest, IsSpelledResponse}}
 use Rattle.hc_msg.specs.{Inputs.{Reports, next_in}, NextParts.{IsReportedFirst, StandsNext}, Reading.{Reading, Token}, Spelled.{IsSpelled}}
 use Rattle.hc_msg.proofs.{Leading.{reports_leads}, NextParts.{stands_next}, Spelled.{tokens_spelled}}
 use Rattle.hc_validate.proofs.Settings.{length-without, size_of-without}

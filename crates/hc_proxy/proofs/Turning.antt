@@ -10,8 +10,7 @@ use Rattle.hc_head.specs.declared.message.{MsgError.{MsgError}, WireRequest.{Wir
 use Rattle.hc_msg.specs.{Inputs.{Next, Waits, Reports, Brings, Ends, Fails, next_in}, Reading.{Reading, Done, Failed, Token, Asks, Answers, Byte}, Taking.{ending}}
 use Rattle.hc_wire.specs.{Logs.{Called}, declared.event.WireEvent.{WireEvent}}
 use Rattle.hc_wire.specs.declared.event.WireEvent.TheVariants as wire
-use Rattle.hc_peers.specs.Renderings.{asked_of, reply_to}
-use Rattle.hc_peers.specs.declared.reply.Reply.{Reply}
+use Rattle.hc_peers.specs.{Renderings.{asked_of, reply_to}, declared.reply.Reply.{Reply}}
 use Rattle.hc_proxy.specs.{Carrying.{answered, answers, opened, all_carried_out, carried, acts_in}, Connections.{exchange_of}, Handling.{begun, inserted, clients_here, left, cancelled, leaves, client_sends, origin_sends, origin_ends, breaks, sends, ends, broke, handled_by, handled}, Network.{open_exchanges, is_last_denied, unless_denied, next_of, hands_head, hands, hands_if, event_at_close, closes, closes_if, handed, closed, heard}, Polls.{live_consumers, may_be_polled, polled, each_polled, polled_all}, Rows.{Client, Upstream, Proxy, new_client, with, with_client, with_upstream}, Starts.{asks, with_holder, started, refused, hears_request, hears, is_ready, hears_if, started_all}, Steps.{stepped}, Turns.{so_far, happened, turned}}
 use Rattle.hc_proxy.specs.Network as network
 use Rattle.hc_proxy.specs.Starts as starts

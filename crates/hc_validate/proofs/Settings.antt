@@ -1,5 +1,5 @@
 -- A field that isn't refused, and how much longer the list is with it.
-use Rattle.std.{proofs.{Common.{◌≡◌, ℕ, ◌+◌, ◌≤◌, ◌<◌, true, List, length, inl, inr, arith}, lemmas.Bool.{both_ways}}}
+use Rattle.std.proofs.{Common.{◌≡◌, ℕ, ◌+◌, ◌≤◌, ◌<◌, true, List, length, inl, inr, arith}, lemmas.Bool.{both_ways}}
 use Rattle.http_header.specs.Token.{IsToken, lowercase}
 use Rattle.hc_fields.specs.{declared.error.FieldError.{FieldError, TheVariants.{BadName, BadValue, TooMany, TooLong, NoMemory}}, FieldList.{Refuses, is_own_value, size_of, without}}
 use Rattle.hc_fields.proofs.{Edits.{length-parts, length-put, size_of-parts, size_of-put}, Kept.{length-lowercase}}

@@ -7,9 +7,7 @@ ghost use Rattle.hc_rules.specs.Admissions.{admission_of, least_bound};
 ghost use Rattle.hc_writers.specs.Group.{survivor};
 ghost use Rattle.hc_entry.specs.Used.{IsUsed};
 
-use crate::way::{
-    Way, admission_by, alone, begin, grow, is_group, is_lost, join, leave, lose, set_offset, writer,
-};
+use crate::way::{Way, admission_by};
 use hc_rules::{Admission, BoundKind};
 use hc_text::{NoMemory, has_item, put_reserved, take_out};
 use hc_writers::{Left, Writers};
@@ -50,7 +48,7 @@ impl ActiveEntry {
     ) -> Result<ActiveEntry, NoMemory>
         ensures { IfOk result (λ entry. used_of entry ≡ founded_by c first writer) }
     {
-        let way = begin(alloc, c, writer)?;
+        let way = Way::begin(alloc, c, writer)?;
         let mut bound = Vec::new(alloc);
         bound.push(c)?;
         Ok(ActiveEntry {
@@ -85,21 +83,21 @@ impl ActiveEntry {
     pub fn writer(&self) -> Option<u64>
         ensures { result ≡ writer_in (used_of self.now).way }
     {
-        writer(&self.way)
+        self.way.writer()
     }
 
     /// Whether a write was refused.
     pub fn is_lost(&self) -> bool
         ensures { result ≡ is_lost_in (used_of self.now).way }
     {
-        is_lost(&self.way)
+        self.way.is_lost()
     }
 
     /// Who goes on after that.
     pub fn alone(&self) -> Option<u64>
         ensures { result ≡ alone_in (used_of self.now).way }
     {
-        alone(&self.way)
+        self.way.alone()
     }
 
     /// The least consumer that is bound.
@@ -114,7 +112,7 @@ impl ActiveEntry {
     pub fn kind(&self, on: bool, writes: bool) -> BoundKind
         ensures { result ≡ kind_of on writes (used_of self.now) }
     {
-        if on && is_group(&self.way) {
+        if on && self.way.is_group() {
             BoundKind::Shared
         } else if writes && self.first.is_some() {
             BoundKind::Exclusive
@@ -138,7 +136,7 @@ impl ActiveEntry {
         ensures err { OnErr result (used_of self.new ≡ used_of self.old) }
     {
         self.bound.reserve(1)?;
-        join(&mut self.way, c)?;
+        self.way.join(c)?;
         put_reserved(&mut self.bound, c);
         Ok(())
     }
@@ -171,7 +169,7 @@ impl ActiveEntry {
         ensures { used_of self.new
             ≡ record (used_of self.old) { way = moved_way c offset (used_of self.old).way } }
     {
-        set_offset(&mut self.way, c, offset);
+        self.way.set_offset(c, offset);
     }
 
     /// So many bytes more are stored.
@@ -180,7 +178,7 @@ impl ActiveEntry {
         ensures { used_of self.new
             ≡ record (used_of self.old) { way = grown_way count (used_of self.old).way } }
     {
-        grow(&mut self.way, count);
+        self.way.grow(count);
     }
 
     /// A write was refused, and this one, if any, goes on. All stay bound.
@@ -189,7 +187,7 @@ impl ActiveEntry {
     {
         self.way = Way::Lost {
             alone,
-            writer: writer(&self.way),
+            writer: self.way.writer(),
         };
     }
 
@@ -199,7 +197,7 @@ impl ActiveEntry {
             ≡ option_and_then survivor (group_in (used_of self.old).way) }
         ensures lost { used_of self.new ≡ lost_by result (used_of self.old) }
     {
-        lose(&mut self.way)
+        self.way.lose()
     }
 
     /// One isn't bound any more. What its writer group is then.
@@ -213,6 +211,6 @@ impl ActiveEntry {
         if self.first == Some(c) {
             self.first = None;
         }
-        leave(&mut self.way, c, keepable)
+        self.way.leave(c, keepable)
     }
 }

@@ -25,110 +25,112 @@ pub(crate) enum Way {
     },
 }
 
-/// The way of one consumer, for whom and for others an exchange may write.
-pub(crate) fn begin(alloc: Global, c: u64, writer: Option<u64>) -> Result<Way, NoMemory>
-    ensures { IfOk result (λ way. way ≡ begun_way c writer) }
-{
-    match writer {
-        Some(x) => Ok(Way::Writers(Writers::new(alloc, x, c, 0)?)),
-        None => Ok(Way::Readers),
-    }
-}
-
-/// The exchange that writes for several, the last one.
-pub(crate) fn writer(way: &Way) -> Option<u64>
-    ensures { result ≡ writer_in way.now }
-{
-    match way {
-        Way::Readers => None,
-        Way::Writers(writers) => Some(writers.exchange()),
-        Way::Lost { writer, .. } => *writer,
-    }
-}
-
-/// Whether a write was refused.
-pub(crate) fn is_lost(way: &Way) -> bool
-    ensures { result ≡ is_lost_in way.now }
-{
-    matches!(way, Way::Lost { .. })
-}
-
-/// Whether an exchange writes for several, or did so last.
-pub(crate) fn is_group(way: &Way) -> bool
-    ensures { result ≡ is_some (group_in way.now) }
-{
-    matches!(way, Way::Writers(_))
-}
-
-/// Who goes on after a write was refused.
-pub(crate) fn alone(way: &Way) -> Option<u64>
-    ensures { result ≡ alone_in way.now }
-{
-    match way {
-        Way::Readers | Way::Writers(_) => None,
-        Way::Lost { alone, .. } => *alone,
-    }
-}
-
-/// One more is bound in this way.
-pub(crate) fn join(way: &mut Way, c: u64) -> Result<(), NoMemory>
-    requires { IfSome (group_in way.old) (MayJoin c) }
-    ensures ok { OnOk result (way.new ≡ joined_way c way.old) }
-    ensures err { OnErr result (way.new ≡ way.old) }
-{
-    match way {
-        Way::Writers(writers) => writers.join(c),
-        Way::Readers | Way::Lost { .. } => Ok(()),
-    }
-}
-
-/// One isn't bound any more. What its writer group is then.
-pub(crate) fn leave(way: &mut Way, c: u64, keepable: bool) -> Option<Left>
-    requires { IfSome (group_in way.old) (MayLeave c) }
-    ensures way { way.new ≡ left_way c way.old }
-    ensures answer { result ≡ option_map (left_answer keepable c) (group_in way.old) }
-{
-    match way {
-        Way::Writers(writers) => Some(writers.leave(c, keepable)),
-        Way::Readers | Way::Lost { .. } => None,
-    }
-}
-
-/// One stands there, if it is a member.
-pub(crate) fn set_offset(way: &mut Way, c: u64, offset: u64)
-    ensures { way.new ≡ moved_way c offset way.old }
-{
-    if let Way::Writers(writers) = way {
-        if writers.holds(c) {
-            writers.moved(c, offset);
+impl Way {
+    /// The way of one consumer, for whom and for others an exchange may write.
+    pub(crate) fn begin(alloc: Global, c: u64, writer: Option<u64>) -> Result<Way, NoMemory>
+        ensures { IfOk result (λ way. way ≡ begun_way c writer) }
+    {
+        match writer {
+            Some(x) => Ok(Way::Writers(Writers::new(alloc, x, c, 0)?)),
+            None => Ok(Way::Readers),
         }
     }
-}
 
-/// So many bytes more are stored.
-pub(crate) fn grow(way: &mut Way, count: u64)
-    requires { IfSome (group_in way.old) (λ g. g.end + count ≤ 2 ^ 62) }
-    ensures { way.new ≡ grown_way count way.old }
-{
-    if let Way::Writers(writers) = way {
-        writers.arrived(count);
+    /// The exchange that writes for several, the last one.
+    pub(crate) fn writer(&self) -> Option<u64>
+        ensures { result ≡ writer_in self.now }
+    {
+        match self {
+            Way::Readers => None,
+            Way::Writers(writers) => Some(writers.exchange()),
+            Way::Lost { writer, .. } => *writer,
+        }
     }
-}
 
-/// A write was refused that is for several. Who of them goes on, if anybody.
-pub(crate) fn lose(way: &mut Way) -> Option<u64>
-    ensures survivor { result ≡ option_and_then survivor (group_in way.old) }
-    ensures lost { way.new ≡ lost_way result way.old }
-{
-    let alone = match way {
-        Way::Writers(writers) => writers.lost(),
-        Way::Readers | Way::Lost { .. } => None,
-    };
-    *way = Way::Lost {
-        alone,
-        writer: writer(way),
-    };
-    alone
+    /// Whether a write was refused.
+    pub(crate) fn is_lost(&self) -> bool
+        ensures { result ≡ is_lost_in self.now }
+    {
+        matches!(self, Way::Lost { .. })
+    }
+
+    /// Whether an exchange writes for several, or did so last.
+    pub(crate) fn is_group(&self) -> bool
+        ensures { result ≡ is_some (group_in self.now) }
+    {
+        matches!(self, Way::Writers(_))
+    }
+
+    /// Who goes on after a write was refused.
+    pub(crate) fn alone(&self) -> Option<u64>
+        ensures { result ≡ alone_in self.now }
+    {
+        match self {
+            Way::Readers | Way::Writers(_) => None,
+            Way::Lost { alone, .. } => *alone,
+        }
+    }
+
+    /// One more is bound in this way.
+    pub(crate) fn join(&mut self, c: u64) -> Result<(), NoMemory>
+        requires { IfSome (group_in self.old) (MayJoin c) }
+        ensures ok { OnOk result (self.new ≡ joined_way c self.old) }
+        ensures err { OnErr result (self.new ≡ self.old) }
+    {
+        match self {
+            Way::Writers(writers) => writers.join(c),
+            Way::Readers | Way::Lost { .. } => Ok(()),
+        }
+    }
+
+    /// One isn't bound any more. What its writer group is then.
+    pub(crate) fn leave(&mut self, c: u64, keepable: bool) -> Option<Left>
+        requires { IfSome (group_in self.old) (MayLeave c) }
+        ensures way { self.new ≡ left_way c self.old }
+        ensures answer { result ≡ option_map (left_answer keepable c) (group_in self.old) }
+    {
+        match self {
+            Way::Writers(writers) => Some(writers.leave(c, keepable)),
+            Way::Readers | Way::Lost { .. } => None,
+        }
+    }
+
+    /// One stands there, if it is a member.
+    pub(crate) fn set_offset(&mut self, c: u64, offset: u64)
+        ensures { self.new ≡ moved_way c offset self.old }
+    {
+        if let Way::Writers(writers) = self {
+            if writers.holds(c) {
+                writers.moved(c, offset);
+            }
+        }
+    }
+
+    /// So many bytes more are stored.
+    pub(crate) fn grow(&mut self, count: u64)
+        requires { IfSome (group_in self.old) (λ g. g.end + count ≤ 2 ^ 62) }
+        ensures { self.new ≡ grown_way count self.old }
+    {
+        if let Way::Writers(writers) = self {
+            writers.arrived(count);
+        }
+    }
+
+    /// A write was refused that is for several. Who of them goes on, if anybody.
+    pub(crate) fn lose(&mut self) -> Option<u64>
+        ensures survivor { result ≡ option_and_then survivor (group_in self.old) }
+        ensures lost { self.new ≡ lost_way result self.old }
+    {
+        let alone = match self {
+            Way::Writers(writers) => writers.lost(),
+            Way::Readers | Way::Lost { .. } => None,
+        };
+        *self = Way::Lost {
+            alone,
+            writer: self.writer(),
+        };
+        alone
+    }
 }
 
 /// How one more may be bound where all are bound so, of whom this is the least.

@@ -1,5 +1,5 @@
 //! Entries by the numbers of their representations: one changes, and the others stay.
-ghost use Rattle.std.specs.Prelude.{◌≡◌, ◌≤◌, ◌^◌, ℕ, ◌∷◌, Some, None, is_some, option_map, true, false, OnOk, OnErr};
+ghost use Rattle.std.specs.Prelude.{◌≡◌, ◌≤◌, ◌^◌, ℕ, ◌∷◌, Some, None, is_some, nat_eq, option_map, true, false, OnOk, OnErr};
 ghost use Rattle.hc_text.specs.Sorted.{has, itself};
 ghost use Rattle.std.specs.Option.{option_and_then};
 ghost use Rattle.hc_writers.specs.Group.{survivor};
@@ -181,6 +181,7 @@ pub(crate) fn stand_in(rows: &mut HashMap<u64, Entry>, r: u64, c: u64, offset: u
     ensures rows { (q : ℕ) → rows_of rows.new q ≡ rows_of rows.old q }
     ensures group { group_at rows.new r
         ≡ option_map (moved_if_member c offset) (group_at rows.old r) }
+    ensures others { (q : ℕ) → nat_eq q r ≡ false → group_at rows.new q ≡ group_at rows.old q }
 {
     if let Some(entry) = rows.get_mut(&r) {
         entry.set_offset(c, offset);

@@ -1,5 +1,5 @@
 //! Who is bound to representations, and what becomes of them.
-ghost use Rattle.std.specs.Prelude.{◌≡◌, ℕ, true, false, option_map, IfSome, OnOk, OnErr};
+ghost use Rattle.std.specs.Prelude.{◌≡◌, ℕ, true, false, nat_eq, option_map, IfSome, OnOk, OnErr};
 ghost use Rattle.std.specs.Option.{option_and_then};
 ghost use Rattle.hc_stored.specs.Kept.{with_user, with_first, left_by, kept_as_gone, kept_as_lost, written_by};
 ghost use Rattle.hc_stored.specs.Views.{admits, admits_first, has_user, is_lost_at};
@@ -98,6 +98,7 @@ impl<B: Backend> Entries<B> {
         ensures faults { (shelf_of self.new).faults ≡ (shelf_of self.old).faults }
         ensures group { group_of self.new r
             ≡ option_map (moved_if_member c offset) (group_of self.old r) }
+        ensures others { (q : ℕ) → nat_eq q r ≡ false → group_of self.new q ≡ group_of self.old q }
     {
         stand_in(&mut self.rows, r, c, offset);
     }

@@ -308,7 +308,8 @@ size_t vosdrieng_act_bytes(vosdrieng_cache *cache, uint8_t *into, size_t room);
 ** vosdrieng_schedule reads a further piece of the text, cut anywhere: a line, and an item, may go on in the next piece. The events whose
 ** items end in it are answered, up to a line that is refused. Lines and entries are numbered from 1 on over all pieces, and the
 ** text begins at the moment of the cache. However the text is cut, the reports of its pieces, one after another, are the report
-** that `vosdrieng replay` writes of it; behind vosdrieng_open they go on with the image.
+** that a replay writes of it over this cache. With the limits 16,777,216 and 268,435,456 that is the report of `vosdrieng replay`;
+** behind vosdrieng_open they go on with the image.
 ** At BAD_TEXT `line` is the number of the line that is refused, and `why` is VOSDRIENG_LINE_BAD and so on. At any other answer neither is
 ** written. The events before that line were answered, and their report is there. From then on each piece is answered BAD_TEXT, with
 ** that line, and changes nothing. A call above ends the text where it is answered OK: a piece behind it is LATE.

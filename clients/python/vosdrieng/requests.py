@@ -109,19 +109,20 @@ class Adapter(HTTPAdapter):
         try:
             if asked.fields is None:
                 raise Refused("the request has a line that a cache can't be told")
+            method = request.method or "GET"
             with resource.lock:
-                reader = resource.reader(request.method or "GET", asked.fields)
-                known = None if stream else resource.read_known(reader, duties)
+                begun = resource.reader(method, asked.fields) if stream else resource.known_or_reader(method, asked.fields, duties)
         except Refused:
             return self._past(resource, request, stream, words)
         except BaseException as fault:
             self._drop_if_gone(resource, fault)
             self._pool.give_back(resource)
             raise
-        if known is not None:
+        if isinstance(begun, tuple):
             self._pool.give_back(resource)
-            return Telling(self, request, known[0], stored_head(resource, known[0])).whole(known[1])
-        pump = Pump(self, resource, request, words, asked.fields, reader, duties)
+            shown, body = begun
+            return Telling(self, request, shown, stored_head(resource, shown)).whole(body)
+        pump = Pump(self, resource, request, words, asked.fields, begun, duties)
         try:
             return pump.streamed() if stream else pump.read()
         except BaseException as fault:

@@ -46,6 +46,7 @@ class Sign:
 WAITING = Sign()  # the duties come first, or another change
 AGAIN = Sign()  # poll once more
 Answer = Union[Shown, bytes, None, Sign]
+Known = tuple[Shown, bytes]  # a head and the whole body
 TOLD = (Shown, Data, Ended, Failed, Pending, Denied)
 
 
@@ -68,16 +69,17 @@ class Reader:
 
     def __init__(self, resource: "Resource", method: str, fields: Fields, load: str) -> None:
         self.resource, self.method, self.fields, self.load = resource, method, fields, load
-        self.consumer = self._start(self.fields, load)
+        self.consumer = 0
 
-    def _start(self, fields: Fields, load: str) -> int:
-        self.consumer = self.resource.start(self, self.method, fields, load)
-        self.is_over = False
-        return self.consumer
+    def began(self, consumer: int) -> "Reader":
+        """It is this consumer from now on."""
+        self.consumer, self.is_over = consumer, False
+        self.resource.joined(self)
+        return self
 
     def _start_again(self, fields: Fields, load: str) -> Answer:
         try:
-            self._start(fields, load)
+            self.began(self.resource.start(self.method, fields, load))
         except Refused as refused:
             raise DownloadFailed(str(refused)) from refused
         return AGAIN
@@ -317,21 +319,44 @@ class Resource:
     def reader(self, method: str, fields: Fields, load: str = "normal") -> Reader:
         """Raises Refused where the request can't be said to a cache, or 1,024 read it already."""
         self.begin()
-        return Reader(self, method, fields, load)
+        return Reader(self, method, fields, load).began(self.start(method, fields, load))
+
+    def known_or_reader(self, method: str, fields: Fields, duties: list[Duty]) -> Union[Known, Reader]:
+        """The head and the body of a hit whose body is known, and else a reader. Raises as `reader` does."""
+        self.begin()
+        consumer = self.start(method, fields, "normal")
+        acts = self.cache.poll(self.moment, consumer, 1) if self.known[1] else ()
+        if len(acts) == 1 and isinstance(shown := acts[0], Shown) and (body := self.known_body(shown)) is not None:
+            self.cache.cancel(self.moment, consumer)
+            if self.readers:
+                self.hooks.changed()
+            return shown, body
+        reader = Reader(self, method, fields, "normal").began(consumer)
+        if acts:
+            told = self._heard(acts, reader, duties)
+            # (what it is to wait for may come before it waits: then it is polled again)
+            reader.told = None if isinstance(told, Pending) else told
+        return reader
 
     # Events of readers
 
-    def start(self, reader: Reader, method: str, fields: Fields, load: str) -> int:
+    def start(self, method: str, fields: Fields, load: str) -> int:
+        """The number of a consumer that begins."""
         consumer = self.cache.last_consumer + 1
         if self.cache.start(self.now(), consumer, method, self.target, fields, load):
             raise Refused("too many read it")
-        self.readers[consumer] = reader
-        reader.last_polled = self.hooks.tick()
         return consumer
+
+    def joined(self, reader: Reader) -> None:
+        self.readers[reader.consumer] = reader
+        reader.last_polled = self.hooks.tick()
 
     def poll(self, reader: Reader, want: int, duties: list[Duty]) -> Act | None:
         reader.last_polled = self.hooks.tick()
-        acts = self.cache.poll(self.now(), reader.consumer, want)
+        return self._heard(self.cache.poll(self.now(), reader.consumer, want), reader, duties)
+
+    def _heard(self, acts: Sequence[Act], reader: Reader, duties: list[Duty]) -> Act | None:
+        """Carries out what a poll was answered, and returns what the reader is told."""
         if len(acts) == 1 and type(acts[0]) is Data:
             return acts[0]
         told = None
@@ -381,18 +406,6 @@ class Resource:
         number, body = self.known
         is_it = shown.representation == number and shown.status == 200 and not shown.why.startswith("fetched")
         return body if is_it and shown.high == len(body) else None
-
-    def read_known(self, reader: Reader, duties: list[Duty]) -> tuple[Shown, bytes] | None:
-        """The head and the body of a reader that began just now, where they are known: then it has left."""
-        if not self.known[1]:
-            return None
-        told = self.poll(reader, 1, duties)
-        if isinstance(told, Shown) and (body := self.known_body(told)) is not None:
-            reader.leave()
-            return told, body
-        # (what it is to wait for may come before it waits: then it is polled again)
-        reader.told = None if isinstance(told, Pending) else told
-        return None
 
     def is_idle(self, consumer: int) -> bool:
         reader = self.readers.get(consumer)

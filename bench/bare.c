@@ -1,9 +1,10 @@
-/* A bare server: whatever is asked, it answers with a head and a million bytes from memory, so many bytes a send, and does nothing else.
-   Its connections take turns, of one send each. It is the least that a server takes which copies a body into the system.
+/* A bare server: whatever is asked, it answers with a head and a body from memory, so many bytes a send, and does nothing else. Its
+   connections take turns, of one send each. It is the least that a server takes which copies a body into the system.
 
-   usage: bare PORT BYTES
+   usage: bare PORT BYTES [LENGTH]
 
-   The bytes stand in segments of 16,384, of which one send takes as many as are wanted. It serves until it is killed. */
+   The body has LENGTH bytes, or a million. A short one goes with its head. A long one stands in segments of 16,384, of which one send takes
+   as many as are wanted. It serves until it is killed. */
 #define _GNU_SOURCE
 #include <arpa/inet.h>
 #include <errno.h>
@@ -17,7 +18,7 @@
 #include <sys/uio.h>
 #include <unistd.h>
 
-enum { BODY = 1000000, SEGMENT = 16384, SEGMENTS = (BODY + SEGMENT - 1) / SEGMENT, MOST = 1024 };
+enum { LONGEST = 1000000, SEGMENT = 16384, SEGMENTS = (LONGEST + SEGMENT - 1) / SEGMENT, HEAD = 100, MOST = 1024 };
 
 struct connection {
     int asked; /* an answer is under way */
@@ -27,7 +28,9 @@ struct connection {
 
 static struct connection connections[MOST];
 static char *segments[SEGMENTS];
-static const char head[] = "HTTP/1.1 200 OK\r\ncontent-length: 1000000\r\n\r\n";
+static char head[HEAD + SEGMENT]; /* with the body behind it, where that is short */
+static size_t body = LONGEST, head_length;
+static int highest;
 
 static void stop(const char *what) {
     perror(what);
@@ -54,6 +57,7 @@ static void accept_all(int poll, int from) {
     while ((fd = accept4(from, NULL, NULL, SOCK_NONBLOCK)) >= 0 && fd < MOST) {
         setsockopt(fd, IPPROTO_TCP, TCP_NODELAY, &on, sizeof on);
         connections[fd] = (struct connection){0};
+        highest = fd > highest ? fd : highest;
         watch(poll, fd, EPOLLIN | EPOLLOUT | EPOLLET);
     }
 }
@@ -69,9 +73,10 @@ static void hear(int fd) {
     if (n == 0 || (n < 0 && errno != EAGAIN))
         drop(fd);
     else if (n > 0) {
-        connections[fd].asked = 1;
+        int is_short = body <= SEGMENT;
+        connections[fd].asked = !is_short;
         connections[fd].sent = 0;
-        if (send(fd, head, sizeof head - 1, MSG_MORE) < 0)
+        if (send(fd, head, head_length + (is_short ? body : 0), is_short ? 0 : MSG_MORE) < 0)
             drop(fd);
     }
 }
@@ -81,8 +86,8 @@ static void serve(int fd, size_t bytes) {
     struct iovec parts[SEGMENTS + 1];
     size_t at = connection->sent, left = bytes;
     int count = 0;
-    for (; left > 0 && at < BODY && count < SEGMENTS; count++) {
-        size_t in = at % SEGMENT, most = BODY - at < left ? BODY - at : left;
+    for (; left > 0 && at < body && count < SEGMENTS; count++) {
+        size_t in = at % SEGMENT, most = body - at < left ? body - at : left;
         parts[count].iov_base = segments[at / SEGMENT] + in;
         parts[count].iov_len = SEGMENT - in < most ? SEGMENT - in : most;
         at += parts[count].iov_len;
@@ -93,14 +98,18 @@ static void serve(int fd, size_t bytes) {
         connection->full = 1;
     else if (n < 0)
         drop(fd);
-    else if ((connection->sent += n) == BODY)
+    else if ((connection->sent += n) == body)
         connection->asked = 0;
 }
 
 int main(int words, char **word) {
-    if (words != 3)
+    if (words != 3 && words != 4)
         return 2;
     size_t bytes = strtoul(word[2], NULL, 10);
+    if (words == 4 && ((body = strtoul(word[3], NULL, 10)) == 0 || body > LONGEST))
+        return 2;
+    head_length = snprintf(head, HEAD, "HTTP/1.1 200 OK\r\ncontent-length: %zu\r\n\r\n", body);
+    memset(head + head_length, 'a', SEGMENT);
     for (int i = 0; i < SEGMENTS; i++) {
         segments[i] = malloc(SEGMENT);
         memset(segments[i], 'a' + i % 26, SEGMENT);
@@ -122,7 +131,7 @@ int main(int words, char **word) {
                 hear(fd);
         }
         due = 0;
-        for (int fd = 0; fd < MOST; fd++) {
+        for (int fd = 0; fd <= highest; fd++) {
             if (connections[fd].asked && !connections[fd].full)
                 serve(fd, bytes);
             due |= connections[fd].asked && !connections[fd].full;

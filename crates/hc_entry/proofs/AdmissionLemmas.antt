@@ -32,14 +32,14 @@ pub least-ascending : (cs : List ℕ) → is_sorted itself cs ≡ true → least
 least-ascending [] up = refl
 least-ascending (c ∷ cs) up = least-above c cs up
 
-least_bound-map : (way : BoundKind) (cs : List ℕ) → is_sorted itself cs ≡ true → least_bound (map (bound_as way) cs) ≡ first_of cs
+pub least_bound-map : (way : BoundKind) (cs : List ℕ) → is_sorted itself cs ≡ true → least_bound (map (bound_as way) cs) ≡ first_of cs
 least_bound-map way cs up = ap least (numbers-map way cs) ∙ least-ascending cs up
 
-least_of-same : (way other : BoundKind) (cs : List ℕ) → is_same_kind way other ≡ true → is_sorted itself cs ≡ true →
+pub least_of-same : (way other : BoundKind) (cs : List ℕ) → is_same_kind way other ≡ true → is_sorted itself cs ≡ true →
     least_of other (map (bound_as way) cs) ≡ first_of cs
 least_of-same way other cs same up = ap (λ (l : List Bound). least (numbers l)) (filter-same way other cs same) ∙ least_bound-map way cs up
 
-least_of-other : (way other : BoundKind) (cs : List ℕ) → is_same_kind way other ≡ false → least_of other (map (bound_as way) cs) ≡ None
+pub least_of-other : (way other : BoundKind) (cs : List ℕ) → is_same_kind way other ≡ false → least_of other (map (bound_as way) cs) ≡ None
 least_of-other way other cs off = ap (λ (l : List Bound). least (numbers l)) (filter-other way other cs off)
 
 -- how one more may be bound

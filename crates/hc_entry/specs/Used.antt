@@ -1,5 +1,5 @@
 -- Who uses a representation, and as what: readers, the members of a writer group, or who is left after a loss.
-use Rattle.std.specs.Prelude.{◌≡◌, ℕ, ◌==◌, ◌&&◌, List, [], ◌∷◌, map, Bool, true, false, Option, Some, None, is_some, IfSome, if◌then◌else◌}
+use Rattle.std.specs.Prelude.{◌≡◌, ℕ, ◌==◌, List, [], ◌∷◌, map, Bool, true, false, Option, Some, None, IfSome, if◌then◌else◌}
 use Rattle.hc_text.specs.Sorted.{is_sorted, with_item, without, itself}
 use Rattle.hc_rules.specs.declared.admission.Bound.{Bound}
 use Rattle.hc_rules.specs.declared.admission.BoundKind.{BoundKind}
@@ -42,14 +42,6 @@ alone_in (way.Writers g) = None
 alone_in (way.Lost alone writer) = alone
 
 -- HOW ONE MORE MAY BE BOUND
-
--- As what all are bound: `on` where the exchange of the writer group is open, `writes` where who came alone has more to
--- come. Then it is the only one.
-abbrev pub kind_of : Bool → Bool → Used → BoundKind
-kind_of on writes u =
-    if on && is_some (group_in u.way) then kind.Shared
-    else if writes && is_some u.first then kind.Exclusive
-    else kind.Reader
 
 abbrev pub bound_as : BoundKind → ℕ → Bound
 bound_as k c = record { c = c; kind = k }

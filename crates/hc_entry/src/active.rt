@@ -26,7 +26,7 @@ pub struct ActiveEntry {
 
 impl ActiveEntry {
     ghost use Rattle.hc_entry.specs.ActiveEntries.{used_of};
-    ghost use Rattle.hc_entry.specs.Used.{alone_in, bindings, first_of, founded_by, group_in, grown_way, is_lost_in, kind_of, left_answer, lost_by, moved_way, nobody, resumed_by, with_first, with_user, without_user, writer_in};
+    ghost use Rattle.hc_entry.specs.Used.{alone_in, bindings, first_of, founded_by, group_in, grown_way, is_lost_in, left_answer, lost_by, moved_way, nobody, resumed_by, with_first, with_user, without_user, writer_in};
 
     /// Nobody is bound.
     pub fn new(alloc: Global) -> ActiveEntry
@@ -105,20 +105,6 @@ impl ActiveEntry {
         ensures { result ≡ first_of (used_of self.now).bound }
     {
         self.bound.first().copied()
-    }
-
-    /// As what all are bound: `on` where the exchange of the writer group is open, `writes` where who
-    /// came alone has more to come.
-    pub fn kind(&self, on: bool, writes: bool) -> BoundKind
-        ensures { result ≡ kind_of on writes (used_of self.now) }
-    {
-        if on && self.way.is_group() {
-            BoundKind::Shared
-        } else if writes && self.first.is_some() {
-            BoundKind::Exclusive
-        } else {
-            BoundKind::Reader
-        }
     }
 
     /// How one more consumer may be bound where all are bound so, where it wants a range or not, and

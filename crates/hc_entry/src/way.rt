@@ -1,5 +1,5 @@
 //! As what those are bound who use a representation.
-ghost use Rattle.std.specs.Prelude.{◌≡◌, ◌+◌, ◌≤◌, ◌^◌, is_some, option_map, IfSome, IfOk, OnOk, OnErr};
+ghost use Rattle.std.specs.Prelude.{◌≡◌, ◌+◌, ◌≤◌, ◌^◌, option_map, IfSome, IfOk, OnOk, OnErr};
 ghost use Rattle.std.specs.Option.{option_and_then};
 ghost use Rattle.hc_writers.specs.Group.{survivor};
 ghost use Rattle.hc_entry.specs.Used.{admission_by, alone_in, begun_way, group_in, grown_way, is_lost_in, joined_way, left_answer, left_way, lost_way, moved_way, writer_in, MayJoin, MayLeave};
@@ -52,13 +52,6 @@ impl Way {
         ensures { result ≡ is_lost_in self.now }
     {
         matches!(self, Way::Lost { .. })
-    }
-
-    /// Whether an exchange writes for several, or did so last.
-    pub(crate) fn is_group(&self) -> bool
-        ensures { result ≡ is_some (group_in self.now) }
-    {
-        matches!(self, Way::Writers(_))
     }
 
     /// Who goes on after a write was refused.

@@ -3,7 +3,7 @@
 -- That is who came alone, has no failure due, and has more to come. More is to come if an exchange of its own is open,
 -- or a byte before its known end isn't stored (`more_own`, `more_none`, `more_ahead`). The entry keeps who came alone,
 -- and the tables have that consumer (`alone_row`). What is written for several nobody writes alone
--- (`exclusive_written`). `exclusive_in` and `has_more` use these, case by case.
+-- (`exclusive_written`). `exclusive`, `kind_of` and `has_more` use these, case by case.
 use Rattle.std.{proofs.{Common.{◌≡◌, ◌⊎◌, inl, inr, ℕ, ◌+◌, ◌<◌, ◌≤◌, ◌^◌, Bool, true, false, max, Option, Some, None, refl, ap, sym, ◌∙◌, subst, arith}, lemmas.Bool.Decides.{nat_tests}}, specs.{Prelude.{is_some, nat_eq, not, ◌&&◌, ◌↔◌, IsTrue}, Option.{option_and_then, option_map}, HashMap.{get}}}
 use Rattle.hc_text.proofs.Basics.{eqb-same, false_true, some_inj as some_is}
 use Rattle.hc_effects.proofs.Vocabulary.{Limits, Place, BoundBy, is_number, own_open, if_open, is_written, is_bound_place, offset, lo_of, Numbers, Tables, Representation, IsFirst, IsBound, exclusive, has_more, lacks_some, came_alone, place}
@@ -69,7 +69,17 @@ module _ {B : Type 0} {g : Ghosts B} {limits : Limits} (r : Rows B g) (t : Table
       rw (here, parts.unwritten) refl in
       (let never : false ≡ true = rw off at on in cc)))
 
-  written_off : is_some (writer_group_of (table_of r.exchanges) ((shelf_of r.entries).kept q)) ≡ false → is_written t p ≡ false
+  -- a writer group is on just where one is by what is kept
+  pub written_on : is_some (writer_group_of (table_of r.exchanges) ((shelf_of r.entries).kept q)) ≡ true → is_written t p ≡ true
+  written_on on = by_test (is_written t p) refl
+    where
+      by_test : (b : Bool) → is_written t p ≡ b → b ≡ true
+      by_test true is = refl
+      by_test false is =
+          let off : writer_group_of (table_of r.exchanges) ((shelf_of r.entries).kept q) ≡ None = group_as r t stands facts.law q ∙ rw (here, is) refl in
+          false_true (sym (ap (λ (o : Option ℕ). is_some o) off) ∙ on)
+
+  pub written_off : is_some (writer_group_of (table_of r.exchanges) ((shelf_of r.entries).kept q)) ≡ false → is_written t p ≡ false
   unfolding is_written
   written_off off = by_test (is_written t p) refl
     where

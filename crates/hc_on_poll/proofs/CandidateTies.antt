@@ -1,28 +1,29 @@
 -- What is current, as the plan of a consumer sees it, is as the tables have it.
 --
 -- Item by item: whether it may be used and whether Vary matches, by head, request and moment, where kind and length
--- don't matter (`allowed_kind`). Then what is wanted, the first hole in that (`hole_as`), and who writes it. Who is
--- bound first has some work: the entry keeps its users in ascending order, so that is the least (`least_bound_as`).
--- `seen_as` joins them for `candidate`; ages stay in range (`age_small`).
-use Rattle.std.{proofs.{Common.{◌≡◌, ℕ, ◌<◌, ◌≤◌, ◌^◌, List, [], ◌∷◌, Bool, true, false, min, Option, Some, None, refl, ap, sym, ◌∙◌, arith}, lemmas.Bool.Decides.{nat_tests}}, specs.{Prelude.{is_some, option_map, codes, nat_lt, not, slice_get, ◌&&◌, if◌then◌else◌}, Option.{option_and_then, unwrap_or}, Str.Parse.{digits_value}, Char.{is_ascii_digit}, List.{list_all}}}
-use Rattle.hc_text.proofs.Basics.{and_both as and_parts, some_inj as some_is}
-use Rattle.hc_effects.proofs.Vocabulary.{Limits, Request, Candidate, RequestClass, least, lesser, class_of, range_of, wanted_of, is_open, Lawful, candidate, hole_of, bound, is_bound, is_written, group_in, Tables, Representation, exclusive}
+-- don't matter (`allowed_kind`). Then what is wanted, and the first hole in that (`hole_as`). Who is bound has some work:
+-- the entry keeps the same ones as the tables, in ascending order, and all are bound in one way (`are_seen`). For who
+-- writes alone is the only one. `seen_as` joins them for `decide`; ages stay in range (`age_small`).
+use Rattle.std.{proofs.{Common.{◌≡◌, ℕ, ◌<◌, ◌≤◌, ◌^◌, List, [], ◌∷◌, Bool, true, false, min, Option, Some, None, refl, ap, sym, ◌∙◌, arith}, lemmas.Bool.Decides.{nat_tests}}, specs.{Prelude.{is_some, map, option_map, codes, ◌&&◌, if◌then◌else◌}, Option.{option_and_then, unwrap_or}, Str.Parse.{digits_value}, Char.{is_ascii_digit}, List.{list_all}}}
+use Rattle.hc_text.proofs.Basics.{false_true, some_inj as some_is}
+use Rattle.hc_effects.proofs.Vocabulary.{Limits, Request, RequestClass, least, lesser, class_of, range_of, wanted_of, Lawful, candidate, hole_of, bound, is_bound, is_written, Tables, Representation, exclusive}
 use Rattle.hc_cachectl.specs.{Directives.{of_request, of_response}, Seconds.{plain_seconds, most_seconds}}
 use Rattle.hc_fields.specs.FirstValues.{first_value}
 use Rattle.hc_record.specs.{Head.{Head, sealed_head}, declared.{head.StoredHead.{StoredHead}, kind.Kind.{Kind, TheVariants.{the_data as kinds}}}, Plain.{plain}}
 use Rattle.hc_range.specs.{declared.range.RangeSpec.{RangeSpec}, Spans.{IsInOrder}}
 use Rattle.hc_sparse.specs.Cells.{EndsBy}
-use Rattle.hc_text.specs.Sorted.{above, is_sorted, is_among, itself}
+use Rattle.hc_text.specs.Sorted.{is_sorted, is_among, itself}
 use Rattle.hc_store.specs.{declared.backend.Backend.{Ghosts}, Slots.{Held}}
-use Rattle.hc_exch.specs.Exchanges.{table_of}
+use Rattle.hc_rules.specs.{declared.admission.{Admission.{Admission}, BoundKind.{BoundKind}}, Admissions.{admission_of}}
+use Rattle.hc_entry.specs.Used.{bound_as}
 use Rattle.hc_stored.specs.{declared.{entries.Entries.{Entries}, view.EntryView.{EntryView}}, Entries.{shelf_of}, Kept.{Kept}, Rows.{Row, rows_of, kept_by, kept_of}, Shelf.{cells_at, cells_in}, Views.{facts_in, view_of, bound_in}}
 use Rattle.hc_fresh.specs.{declared.facts.HeadFacts.{HeadFacts}, Allowed.{allowed_by}, Lifetimes.{lifetime}, Vary.{matches_vary}, Ages.{age, age_value, corrected_initial_age}, Facts.{head_facts, allowed}}
 use Rattle.hc_model.specs.Rows as rows
-use Rattle.hc_effects.proofs.{Bounded.{range_order}, Tests.{none_some}}
-use Rattle.hc_state.specs.{declared.rows.Rows.{Rows}, Candidates.{hole_in, AllowedIs}, Facts.{Facts}, Kept.{IsKept}, Leaving.{writer_group_of}, Stands.{RowsStand}, Stored.{IsEntry}}
-use Rattle.hc_txn.specs.declared.transaction.Transaction.{Transaction as Consumer}
-use Rattle.hc_state.proofs.{CurrentTies.{stored_ends, stays_stored, total_reported, entry_at}, LeftRows.{group_as}, TurnTies.{least_alike, filter_in, among_in}, Classes.{class_is}}
-use Rattle.hc_on_poll.proofs.HoleTies.{hole_as}
+use Rattle.hc_effects.proofs.{Bounded.{range_order}, Exclusives.{exclusive_parts}, Tests.{none_some}}
+use Rattle.hc_state.specs.{declared.rows.Rows.{Rows}, Candidates.{kind_in}, Facts.{Facts}, Kept.{IsKept}, Stands.{RowsStand}, Stored.{IsEntry}}
+use Rattle.hc_txn.specs.{declared.{plan.Current.{Current}, transaction.Transaction.{Transaction as Consumer}}, Plans.{SeesUsers, has_holes, hole_in}}
+use Rattle.hc_state.proofs.{CurrentTies.{stored_ends, stays_stored, total_reported, entry_at}, TurnTies.{least_alike, filter_in, among_in}, Classes.{class_is}}
+use Rattle.hc_on_poll.proofs.{HoleTies.{hole_as}, UsersSeen.{AreSeen, are_seen}}
 
 -- AGES
 
@@ -69,20 +70,7 @@ head_at_is o e head at is = some_is e.head (plain head) (sym (ap (option_map (λ
 pub in_order : (t : Tables) (k : Consumer) (v : rows.Consumer) → IsKept t k v → (asked : RangeSpec) → k.class.range ≡ Some asked → IsInOrder asked
 in_order t k v kept asked is = range_order v.request asked (sym (ap (λ (z : RequestClass). z.range) (class_is kept) ∙ range_of_class v.request) ∙ is)
 
--- WHO IS BOUND FIRST
-
-ascends_least : (x : ℕ) (xs : List ℕ) → above itself x xs ≡ true → least (x ∷ xs) ≡ Some x
-ascends_least x [] up = refl
-ascends_least x (y ∷ ys) up =
-    let both = and_parts (nat_lt x y) (above itself y ys) up in
-    let lt : x < y = (let on = both.0 in grind (arith, nat_tests, on)) in
-    let rest = ascends_least y ys both.1 in
-    ap (λ (o : Option ℕ). lesser o x) rest ∙ ap Some (let less : min y x ≡ x = omega arith in less)
-
--- the first of those that rise is the least
-first_least : (xs : List ℕ) → is_sorted itself xs ≡ true → slice_get xs 0 ≡ least xs
-first_least [] up = refl
-first_least (x ∷ xs) up = sym (ascends_least x xs up)
+-- WHO IS BOUND
 
 -- who is bound, by what is kept, stands sorted
 pub bound_ascends : {B : Type 0} {g : Ghosts B} (a : Entries B g) (q : ℕ) (e : Kept) → (shelf_of a).kept q ≡ Some e → is_sorted itself e.bound ≡ true
@@ -108,9 +96,35 @@ bound_in_starts t law q c = filter_in (λ d. is_bound q (t.consumer d)) c t.star
     by_test false is = refl
     by_test true is = among_in c t.starts (law.sound.numbered.lists.started c (there (t.consumer c) is))
 
-pub least_bound_as : (t : Tables) (law : Lawful t) (q : ℕ) (e : Kept) (p : Representation) → IsEntry t q e p → is_sorted itself e.bound ≡ true →
-    slice_get e.bound 0 ≡ least (bound t q)
-least_bound_as t law q e p is up = first_least e.bound up ∙ least_alike e.bound (bound t q) (λ c. is.bound c ∙ sym (bound_in_starts t law q c))
+-- the least of those is the least that is bound
+pub least_bound_as : (t : Tables) (law : Lawful t) (q : ℕ) (e : Kept) (p : Representation) → IsEntry t q e p → least e.bound ≡ least (bound t q)
+least_bound_as t law q e p is = least_alike e.bound (bound t q) (λ c. is.bound c ∙ sym (bound_in_starts t law q c))
+
+-- somebody is bound to what a writer group writes
+group_bound : (t : Tables) (law : Lawful t) (q : ℕ) (p : Representation) → t.representation q ≡ Some p → is_written t p ≡ true →
+    is_some (least (bound t q)) ≡ true
+group_bound t law q p here on = by_bound (bound t q) refl
+  where
+    by_bound : (ds : List ℕ) → bound t q ≡ ds → is_some (least (bound t q)) ≡ true
+    by_bound [] none = absurd (law.sound.writes.has_bound q p here on none)
+    by_bound (d ∷ ds) some = ap (λ (l : List ℕ). is_some (least l)) some ∙ by_least (least ds)
+      where
+        by_least : (o : Option ℕ) → is_some (lesser o d) ≡ true
+        by_least None = refl
+        by_least (Some m) = refl
+
+-- nobody writes that alone
+group_alone : (t : Tables) (q : ℕ) (p : Representation) → is_written t p ≡ true → exclusive t q p ≡ None
+group_alone t q p on = by_writer (exclusive t q p) refl
+  where
+    by_writer : (o : Option ℕ) → exclusive t q p ≡ o → o ≡ None
+    by_writer None is = refl
+    by_writer (Some d) is = false_true (sym (exclusive_parts t q d p is).unwritten ∙ on)
+
+-- who writes alone is the least
+alone_least : (t : Tables) (law : Lawful t) (q : ℕ) (p : Representation) → t.representation q ≡ Some p → p.is_lost ≡ false → (d : ℕ) →
+    exclusive t q p ≡ Some d → least (bound t q) ≡ Some d
+alone_least t law q p here stays d is = ap least (law.alone.is_only q d p here stays is).only
 
 -- WHAT ITS HEAD SAYS
 
@@ -125,26 +139,6 @@ allowed_kind head kind total request now =
     ap (λ (n : ℕ). allowed_by (of_response head.fields).no_cache (of_response head.fields).must_revalidate (of_request request.fields) request.load
     (age head now) n) (lifetime_kind head kind total)
 
-abbrev none_by : Bool → Option ℕ
-none_by b = if b then None else None
-
-written_as : (t : Tables) (p : Representation) → is_some (if is_written t p then p.writer else None) ≡ is_written t p
-unfolding is_written
-written_as t p = by_writer p.writer refl
-  where
-    by_lost : (x : ℕ) (b o : Bool) → is_some (if (not b && o) then Some x else None) ≡ (not b && o)
-    by_lost x true o = refl
-    by_lost x false true = refl
-    by_lost x false false = refl
-
-    none_open : (b : Bool) → is_some (none_by (not b && false)) ≡ (not b && false)
-    none_open true = refl
-    none_open false = refl
-
-    by_writer : (o : Option ℕ) → p.writer ≡ o → is_some (if is_written t p then p.writer else None) ≡ is_written t p
-    by_writer None is = rw is (none_open p.is_lost)
-    by_writer (Some x) is = rw is (by_lost x p.is_lost (is_open (t.exchange x)))
-
 -- ALL OF IT
 
 module _ {B : Type 0} {g : Ghosts B} {limits : Limits} (r : Rows B g) (t : Tables) (facts : Facts limits t) (stands : RowsStand limits r t) (now q : ℕ)
@@ -156,14 +150,20 @@ module _ {B : Type 0} {g : Ghosts B} {limits : Limits} (r : Rows B g) (t : Table
   stored : EndsBy p.reach p.stored
   stored = stored_ends t facts.law q p here (stays_stored t facts.law q p here stays)
 
-  pub seen_as : (seen : Candidate) (view : EntryView) (head : StoredHead) → AllowedIs k.request now seen.allowed e → view_of e ≡ view → e.head ≡ plain
-      head → seen.vary ≡ matches_vary (plain head) k.request → seen.span ≡ wanted_of k.class.range view.total
-      → seen.hole ≡ hole_in (cells_at (shelf_of r.entries) q) seen.span →
-      seen.writer_group ≡ is_some (writer_group_of (table_of r.exchanges) ((shelf_of r.entries).kept q)) → seen.exclusive ≡ exclusive t q p →
-      seen.least_bound ≡ slice_get (bound_in ((shelf_of r.entries).kept q)) 0
-      → seen ≡ candidate t now q v.request p
-  seen_as seen view head allows viewed head_is varies wants hole_is writes alone least_is =
-      let span : seen.span ≡ wanted_of (range_of v.request) p.head.total =
+  -- who is bound, as the table of plans sees it
+  seen_bound : AreSeen e.bound (is_written t p) (exclusive t q p) (least (bound t q))
+  seen_bound = are_seen e.bound (bound_ascends r.entries q e kept) (least (bound t q)) (least_bound_as t facts.law q e p is) (is_written t p) (exclusive t q p)
+      (group_bound t facts.law q p here)
+      (group_alone t q p)
+      (alone_least t facts.law q p here (stays_stored t facts.law q p here stays))
+
+  pub seen_as : (seen : Current) (view : EntryView) (head : StoredHead) (how : BoundKind) (a : Admission) → seen.allowed ≡ allowed e.head k.request now →
+      view_of e ≡ view → e.head ≡ plain head → seen.vary ≡ matches_vary (plain head) k.request → seen.wanted ≡ wanted_of k.class.range view.total →
+      seen.hole ≡ hole_in (cells_at (shelf_of r.entries) q) seen.wanted → how ≡ kind_in t q p →
+      a ≡ admission_of (map (bound_as how) (bound_in ((shelf_of r.entries).kept q))) (is_some k.class.range) (has_holes seen) →
+      SeesUsers (is_some k.class.range) seen a (candidate t now q v.request p) (map (bound_as (kind_in t q p)) e.bound)
+  seen_as seen view head how a allows viewed head_is varies wants hole_is kind_is admits =
+      let span : seen.wanted ≡ wanted_of (range_of v.request) p.head.total =
       wants ∙ (ap (λ (z : RequestClass). wanted_of z.range view.total) (class_is is_kept)
       ∙ (ap (λ (o : Option RangeSpec). wanted_of o view.total) (range_of_class v.request)
       ∙ ap (wanted_of (range_of v.request)) (ap (λ (z : EntryView). z.total) (sym viewed) ∙ total_reported t q e p is stays))) in
@@ -174,18 +174,18 @@ module _ {B : Type 0} {g : Ghosts B} {limits : Limits} (r : Rows B g) (t : Table
       varies ∙ (ap (λ (h : Head). matches_vary h k.request) (sym head_is)
       ∙ (ap (matches_vary e.head) is_kept.request ∙ ap (λ (h : Head). matches_vary h v.request) is.head)) in
       let hole : seen.hole ≡ hole_of p (wanted_of (range_of v.request) p.head.total) =
-      hole_is ∙ (ap (λ (o : Option Kept). hole_in (λ n. cells_in o n) seen.span) kept
-      ∙ (hole_as p e.cells stored is.cells seen.span ∙ ap (hole_of p) span)) in
-      let writer_group : seen.writer_group ≡ is_written t p =
-      writes ∙ (ap (λ (o : Option ℕ). is_some o) (group_as r t stands facts.law q ∙ ap (group_in t) here) ∙ written_as t p) in
-      let least : seen.least_bound ≡ least (bound t q) =
-      least_is ∙ (ap (λ (o : Option Kept). slice_get (bound_in o) 0) kept ∙ least_bound_as t facts.law q e p is (bound_ascends r.entries q e kept)) in
-      λ i. record {
-        allowed = allowed_is i;
-        vary = vary_is i;
-        span = span i;
-        hole = hole i;
-        writer_group = writer_group i;
-        exclusive = alone i;
-        least_bound = least i;
+      hole_is ∙ (ap (λ (o : Option Kept). hole_in (λ n. cells_in o n) seen.wanted) kept
+      ∙ (hole_as p e.cells stored is.cells seen.wanted ∙ ap (hole_of p) span)) in
+      record {
+        current_is = λ i. record { allowed = allowed_is i; vary = vary_is i; wanted = span i; hole = hole i };
+        sees = record {
+          writer_group = seen_bound.writer_group;
+          together = seen_bound.together;
+          exclusive = seen_bound.exclusive_is;
+          least = seen_bound.least_is;
+        };
+        alone = alone_least t facts.law q p here (stays_stored t facts.law q p here stays);
+        admission_is = admits
+            ∙ (ap (λ (o : Option Kept). admission_of (map (bound_as how) (bound_in o)) (is_some k.class.range) (has_holes seen)) kept
+            ∙ ap (λ (z : BoundKind). admission_of (map (bound_as z) e.bound) (is_some k.class.range) (has_holes seen)) kind_is);
       }

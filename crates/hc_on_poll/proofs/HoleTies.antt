@@ -12,7 +12,7 @@ use Rattle.hc_effects.proofs.Vocabulary.{Wanted, first_place, absent_from, cover
 use Rattle.hc_partial.specs.Holes as partial
 use Rattle.hc_partial.proofs.HoleLemmas.{absent_from_is, present_from_is, first_hole-none, first_hole-some, first_hole-empty}
 use Rattle.hc_effects.proofs.{Basics.{same_functions}, HoleLemmas.{first_from, first_to, first_before, first_passes, some_of, not_none, hole_absent, hole_some}, HolesOpened.{first_hole_is}, Tests.{none_some}}
-use Rattle.hc_state.specs.Candidates.{hole_in}
+use Rattle.hc_txn.specs.Plans.{hole_in}
 
 none_is : (o : Option Cell) → o ≡ None → is_some o ≡ true → ⊥
 none_is o none some = let never : false ≡ true = rw none at some in cc

@@ -23,6 +23,7 @@ pub mod FetchHandler
 pub mod PassesHandler
 pub mod HoleTies
 pub mod HoleAsked
+pub mod UsersSeen
 pub mod CandidateTies
 pub mod BoundHandler
 pub mod BindHandler

@@ -187,27 +187,25 @@ module _ {B : Type 0} {g : Ghosts B} {limits : Limits} (r : Rows B g) (t : Table
       ap (λ (o : Option Candidate). plan_of (record (planning.plan_view t now c v) { current = o })) (sym bare))
 
   -- with what is current
-  pub some_plan_is : (now q : ℕ) (seen : Candidate) → HasCurrent r.keys q k →
-      ((p : Representation) → t.representation q ≡ Some p → seen ≡ candidate t now q v.request p) → (p : Representation) → t.representation q ≡ Some p
-      → plan_of (planning.plan_view t now c v) ≡ plan_of (record (plan_view r now c k) { current = Some seen })
-  some_plan_is now q seen held sees p here =
+  some_plan_is : (now q : ℕ) → HasCurrent r.keys q k → (p : Representation) → t.representation q ≡ Some p →
+      plan_of (planning.plan_view t now c v) ≡ plan_of (record (plan_view r now c k) { current = Some (candidate t now q v.request p) })
+  some_plan_is now q held p here =
       let lists = facts.law.sound.numbered.lists in
+      let seen = candidate t now q v.request p in
       let at : current t its ≡ Some q = current_as r t k v q stands kept held in
       let reported : (planning.plan_view t now c v).current ≡ Some seen =
-      ap (option_and_then (candidate_at t now v.request)) at ∙
-      (ap (option_map (λ (z : Representation). candidate t now q v.request z)) here ∙ ap Some (sym (sees p here))) in
+      ap (option_and_then (candidate_at t now v.request)) at ∙ ap (option_map (λ (z : Representation). candidate t now q v.request z)) here in
       sym (plans_are r t now c k v stands lists kept (Some seen) ∙
       ap (λ (o : Option Candidate). plan_of (record (planning.plan_view t now c v) { current = o })) (sym reported))
 
   -- the plan with what is current, as the code makes it
-  pub some_plan_at : (now : ℕ) (view : PlanView) → view ≡ plan_view r now c k → (q : ℕ) (seen : Candidate) → HasCurrent r.keys q k
-      → ((p : Representation) → Facts limits t → RowsStand limits r t → t.consumer c ≡ Some v → t.representation q ≡ Some p →
-      seen ≡ candidate t now q v.request p)
-      → (p : Plan) → p ≡ plan_of (record view { current = Some seen }) → plan_of (planning.plan_view t now c v) ≡ p
-  some_plan_at now view viewed q seen held sees p made =
+  pub some_plan_at : (now : ℕ) (view : PlanView) → view ≡ plan_view r now c k → (q : ℕ) → HasCurrent r.keys q k → (made : Plan)
+      → ((p : Representation) → t.representation q ≡ Some p → made ≡ plan_of (record view { current = Some (candidate t now q v.request p) }))
+      → plan_of (planning.plan_view t now c v) ≡ made
+  some_plan_at now view viewed q held made decides =
       let at = now_kept r t stands its q (current_as r t k v q stands kept held) in
-      some_plan_is now q seen held (λ z here. sees z facts stands row here) at.p at.row ∙
-      (ap (λ (z : PlanView). plan_of (record z { current = Some seen })) (sym viewed) ∙ sym made)
+      some_plan_is now q held at.p at.row ∙
+      (ap (λ (z : PlanView). plan_of (record z { current = Some (candidate t now q v.request at.p) })) (sym viewed) ∙ sym (decides at.p at.row))
 
   -- where nothing that is current is looked at
   pub unlooked_plan : (now : ℕ) (view : PlanView) → view ≡ plan_view r now c k → (seen : Option ℕ) →

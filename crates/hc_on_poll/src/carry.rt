@@ -9,7 +9,7 @@ ghost use Rattle.hc_state.specs.Plans.{PlanViewIs, IsLookedAt, looks_at_stored, 
 ghost use Rattle.hc_state.specs.Frames.{KeepsFaults};
 ghost use Rattle.hc_on_poll.specs.Ready.{IsCurrentWith, MayOpen, uses_stored};
 
-use crate::candidate::{candidate, decide};
+use crate::candidate::decide;
 use crate::hole::open_first_hole;
 use crate::plan::{bypass, fetch, open_past, revalidate, wait_for_turn, wait_for_use};
 use crate::show::bind;
@@ -46,8 +46,7 @@ pub(crate) fn carry_out<B: Backend>(
     };
     match rows.entries.head(r) {
         Ok(head) => {
-            let current = candidate(rows, now, c, r, &head);
-            let plan = decide(rows, now, c, looked.view.turn, current);
+            let plan = decide(rows, now, c, looked.view.turn, r, &head);
             carry_out_plan(rows, now, c, plan, Some(Stored { r, head }), out)
         }
         Err(error) => misread_by(rows, now, c, r, error, out),

@@ -54,8 +54,15 @@ impl Binding {
             .admission(self.kind(), is_ranged(v), has_holes(v))
     }
 
+    /// As what all are bound.
     fn kind(&self) -> BoundKind {
-        self.entry.kind(self.on, self.writes)
+        if self.on {
+            BoundKind::Shared
+        } else if self.writes && self.entry.first().is_some() {
+            BoundKind::Exclusive
+        } else {
+            BoundKind::Reader
+        }
     }
 
     /// Binds one more, and writes how.

@@ -1,6 +1,8 @@
 //! What is told of representations.
-ghost use Rattle.std.specs.Prelude.{◌≡◌, false, option_map, IfSome};
+ghost use Rattle.std.specs.Prelude.{◌≡◌, true, false, map, option_map, IfSome};
 ghost use Rattle.std.specs.Option.{option_copied};
+ghost use Rattle.hc_rules.specs.Admissions.{admission_of};
+ghost use Rattle.hc_entry.specs.Used.{bound_as};
 ghost use Rattle.hc_record.specs.Head.{opaque_of};
 ghost use Rattle.hc_stored.specs.Views.{view_of, key_in, facts_in, tag_in, bound_in};
 
@@ -8,12 +10,13 @@ use super::Entries;
 use crate::view::EntryView;
 use hc_etag::Tag;
 use hc_fresh::HeadFacts;
-use hc_rules::SLOT_WEIGHT;
+use hc_rules::{Admission, BoundKind, SLOT_WEIGHT};
 use hc_store::Backend;
 use hc_text::Key;
 
 impl<B: Backend> Entries<B> {
     ghost use Rattle.hc_stored.specs.Entries.{shelf_of};
+    ghost use Rattle.hc_stored.specs.Shelf.{is_kept};
 
     /// What is told of the representation. None exactly where it isn't kept.
     // Callers mostly want one field or two of it, so that the rest needn't be read where it is inlined.
@@ -56,5 +59,14 @@ impl<B: Backend> Entries<B> {
             Some(entry) => entry.users.bound(),
             None => &[],
         }
+    }
+    /// How one more consumer may be bound to it, where all are bound so that are.
+    pub fn admission(&self, r: u64, kind: BoundKind, ranged: bool, holes: bool) -> Admission
+        requires { is_kept (shelf_of self.now) r ≡ true }
+        ensures { result ≡ admission_of
+            (map (bound_as kind) (bound_in ((shelf_of self.now).kept r))) ranged holes }
+    {
+        let entry = self.rows.get(&r).unwrap();
+        entry.users.admission(kind, ranged, holes)
     }
 }

@@ -6,10 +6,9 @@
 -- answered (`read_answers`). Where it can't be read, `misread_by` answers.
 use Rattle.std.{proofs.{Common.{Some, nat_eq, ap, subst, sym, ◌∙◌, ◌≡◌}, Math.Logic.{∥∥₁_map}}, specs.HashMap.{get}}
 use Rattle.hc_text.proofs.Basics.{false_true}
-use Rattle.hc_effects.proofs.Vocabulary.{PlanView, act_list, plan_of}
-use Rattle.hc_txn.specs.Views.{plan_view_by}
+use Rattle.hc_effects.proofs.Vocabulary.{PlanView, act_list, candidate}
 use Rattle.hc_record.specs.Plain.{plain}
-use Rattle.hc_state.specs.{Kept.{KeepsConsumer}, Plans.{IsIdle, HasCurrent}}
+use Rattle.hc_state.specs.{Candidates.{DecidesOn}, Kept.{KeepsConsumer}, Plans.{IsIdle, HasCurrent}}
 use Rattle.hc_state.proofs.{Maps.{known_of, lent, some_that}, Words.{ok_then, on_ok_two}}
 use Rattle.hc_on_poll.specs.Ready.{uses_stored}
 use Rattle.hc_on_poll.proofs.{PlanHandlers.{bare_uses, unlooked_plan, some_plan_at, looked_current, current_kept, fault_only, read_current, read_until, read_some, read_answers, read_fault}, Deciding.{decided}}
@@ -44,11 +43,11 @@ head-requires g c =
     (some_that at_row k (HasCurrent r.keys c.in-Some.r) at
     (looked_current k r.keys c.look_up-looked.result.view c.look_up-looked.result.current c.in-Some.r c.look_up-looked.ensures.current c.in-Some.is))
 
-pub candidate-current-requires-clause-stands : goal.candidate-current-requires-clause-stands
-candidate-current-requires-clause-stands g c = read_until c.args.rows.now c.head.new.self c.head.ensures.same c.args.now c.requires.stands
+pub decide-plan-requires-clause-stands : goal.decide-plan-requires-clause-stands
+decide-plan-requires-clause-stands g c = read_until c.args.rows.now c.head.new.self c.head.ensures.same c.args.now c.requires.stands
 
-pub candidate-current-requires-clause-current : goal.candidate-current-requires-clause-current
-candidate-current-requires-clause-current g c =
+pub decide-plan-requires-clause-current : goal.decide-plan-requires-clause-current
+decide-plan-requires-clause-current g c =
     let r = c.args.rows.now in
     let at_row = get nat_eq r.consumers c.args.c in
     let k = c.unwrap-consumer.result.now in
@@ -70,12 +69,13 @@ carry_out_plan-requires-in-Ok-clause-plan g c = λ limits t v facts stands row.
     let at = lent c.get.result at_row c.unwrap-consumer.result c.get.ensures.value c.unwrap-consumer.ensures in
     let kept = subst (KeepsConsumer t (Some k)) row (subst (λ o. KeepsConsumer t o (t.consumer c.args.c)) at (stands.consumers c.args.c)) in
     let held = looked_current k r.keys c.look_up-looked.result.view c.look_up-looked.result.current c.in-Some.r c.look_up-looked.ensures.current c.in-Some.is in
-    some_plan_at (record r { entries = c.head.new.self }) t facts stands c.args.c k v row kept (known_of at_row k IsIdle at c.requires.idle) c.args.now
-    c.look_up-looked.result.view c.look_up-looked.ensures.view
-    c.in-Some.r c.candidate-current.result held (c.candidate-current.ensures _ t v) c.decide-plan.result
-    (known_of at_row k (λ j. c.decide-plan.result ≡ plan_of
-    (plan_view_by c.args.now c.args.c c.look_up-looked.result.view.turn (Some c.candidate-current.result) j)) at c.decide-plan.ensures ∙
-    decided r c.args.now c.args.c k c.look_up-looked.result.view c.look_up-looked.ensures.view (Some c.candidate-current.result))
+    let view = c.look_up-looked.result.view in
+    let read = record r { entries = c.head.new.self } in
+    let plan = c.decide-plan.result in
+    some_plan_at read t facts stands c.args.c k v row kept (known_of at_row k IsIdle at c.requires.idle) c.args.now view c.look_up-looked.ensures.view
+    c.in-Some.r held plan (λ p here.
+    known_of at_row k (DecidesOn read c.args.now c.args.c view.turn c.in-Some.r plan) at c.decide-plan.ensures _ t v p facts stands row here
+    ∙ decided r c.args.now c.args.c k view c.look_up-looked.ensures.view (candidate t c.args.now c.in-Some.r v.request p))
 
 pub carry_out_plan-requires-in-Ok-clause-current : goal.carry_out_plan-requires-in-Ok-clause-current
 carry_out_plan-requires-in-Ok-clause-current g c =

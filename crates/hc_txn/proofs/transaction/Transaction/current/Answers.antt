@@ -3,7 +3,7 @@ use Rattle.hc_fields.specs.FirstValues.{elements_in}
 use Rattle.hc_cachectl.specs.Directives.{IsCapped}
 use Rattle.hc_cachectl.proofs.Caps.{capped}
 use Rattle.hc_fresh.specs.declared.facts.RequestFacts.{RequestFacts}
-use Rattle.hc_txn.proofs.transaction.Transaction.candidate.Goals as goal
+use Rattle.hc_txn.proofs.transaction.Transaction.current.Goals as goal
 
 pub allowed_to-requires-clause-capped : goal.allowed_to-requires-clause-capped
 allowed_to-requires-clause-capped g c =

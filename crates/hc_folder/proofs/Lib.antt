@@ -7,3 +7,6 @@ pub mod Renewals
 pub mod Unread
 pub mod Saying
 pub mod Recorded
+pub mod Told
+pub mod SaidOnce
+pub mod Closing

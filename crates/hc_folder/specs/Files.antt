@@ -17,6 +17,10 @@ pub record IsNewest (files : Files) (n : ℕ) : Type 0 where
   pub none : (k : ℕ) → n < k → files.records k ≡ None
   pub there : 0 < n → IsSome (files.records n)
 
+-- no record has this number or a higher one
+abbrev pub HasNoneFrom : ℕ → Files → Type 0
+HasNoneFrom n files = (k : ℕ) → n ≤ k → files.records k ≡ None
+
 -- the file of the image, and the number of the newest record
 pub record IsFound (file : Option (Vec ℕ Global)) (newest : ℕ) (files : Files) : Type 0 where
   pub image : IsFile files.image file

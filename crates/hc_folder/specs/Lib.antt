@@ -6,4 +6,6 @@ pub mod Causes
 pub mod Records
 pub mod Says
 pub mod Unwritten
+pub mod Written
 pub mod Recording
+pub mod Closing

@@ -15,6 +15,6 @@ pub use blocks::{RecordError, read_record};
 pub use folder::{Folder, FolderError, ImageFound};
 pub use image::{ImageFile, make_image_file, read_image_file};
 pub use reading::{FilesError, Said, read_files};
-pub use recording::{Recorder, Unwritten};
+pub use recording::{Closed, Recorder, Standing, Unwritten};
 pub use renewing::renew;
 pub use sum::Sum;

@@ -1,5 +1,5 @@
 use Rattle.std.{proofs.Common.{◌∙◌, ℕ, ap, subst}, specs.{Global.{Global}, Prelude.{Vec}}}
-use Rattle.hc_folder.specs.Recording.{HasUnwrittenCause}
+use Rattle.hc_folder.specs.Recording.{HasUnwrittenCause, size_with}
 use Rattle.hc_folder.specs.declared.recording.Unwritten.TheVariants as why
 use Rattle.hc_folder.proofs.Recorded.{on_recorded, none_ok, all_written, folder_cause, told_cause}
 use Rattle.hc_folder.proofs.recording.Recorder.put_all.Goals as goal
@@ -14,8 +14,8 @@ returns-in_err-put_owed-clause-ok g c = none_ok _ _ c.from_residual.result c.fro
 
 pub returns-in_err-put_owed-clause-cause : goal.returns-in_err-put_owed-clause-cause
 returns-in_err-put_owed-clause-cause g c =
-    folder_cause (g.F.Folder.faults c.args.self.now.folder) (g.F.Folder.faults c.put_owed.new.self.folder) c.put_owed.new.self c.from_residual.result
-    c.in_err-put_owed.field-0.0 c.from_residual.ensures.1 c.in_err-put_owed.ensures.cause
+    folder_cause (g.F.Folder.faults c.args.self.now.folder) (g.F.Folder.faults c.put_owed.new.self.folder) (size_with c.put_owed.new.self)
+    c.from_residual.result c.in_err-put_owed.field-0.0 c.from_residual.ensures.1 c.in_err-put_owed.ensures.cause
 
 -- THE BLOCK THAT COMES NEXT ISN'T PUT
 
@@ -34,8 +34,8 @@ pub returns-in_err-put_block-clause-cause : goal.returns-in_err-put_block-clause
 returns-in_err-put_block-clause-cause g c =
     let t = c.put_block.new.self in
     let out = c.from_residual-in_err-put_block in
-    subst (λ before. HasUnwrittenCause before (g.F.Folder.faults t.folder) t out.result) c.in_ok-put_owed.ensures.cause
-    (told_cause (g.F.Folder.faults c.put_owed.new.self.folder) (g.F.Folder.faults t.folder) t out.result c.in_err-put_block.field-0.0 out.ensures.1
+    subst (λ before. HasUnwrittenCause before (g.F.Folder.faults t.folder) (size_with t) out.result) c.in_ok-put_owed.ensures.cause
+    (told_cause (g.F.Folder.faults c.put_owed.new.self.folder) (g.F.Folder.faults t.folder) (size_with t) out.result c.in_err-put_block.field-0.0 out.ensures.1
     c.in_err-put_block.ensures.cause)
 
 -- NO BLOCK IS MADE
@@ -60,7 +60,7 @@ pub returns-in_err-make_block-clause-cause : goal.returns-in_err-make_block-clau
 returns-in_err-make_block-clause-cause g c =
     let u = c.make_block.new.self in
     let out = c.from_residual-in_err-make_block in
-    told_cause (g.F.Folder.faults c.args.self.now.folder) (g.F.Folder.faults u.folder) u out.result why.NoMemory out.ensures.1
+    told_cause (g.F.Folder.faults c.args.self.now.folder) (g.F.Folder.faults u.folder) (size_with u) out.result why.NoMemory out.ensures.1
     (ap g.F.Folder.faults c.in_err-make_block.ensures.folder ∙ c.in_ok-put_block.ensures.cause ∙ c.in_ok-put_owed.ensures.cause)
 
 -- BEHIND THAT
@@ -86,5 +86,5 @@ returns-clause-ok g c =
 pub returns-clause-cause : goal.returns-clause-cause
 returns-clause-cause g c =
     let v = c.put_block-2.new.self in
-    subst (λ before. HasUnwrittenCause before (g.F.Folder.faults v.folder) v c.put_block-2.result)
+    subst (λ before. HasUnwrittenCause before (g.F.Folder.faults v.folder) (size_with v) c.put_block-2.result)
     (ap g.F.Folder.faults c.in_ok-make_block.ensures.folder ∙ c.in_ok-put_block.ensures.cause ∙ c.in_ok-put_owed.ensures.cause) c.put_block-2.ensures.cause

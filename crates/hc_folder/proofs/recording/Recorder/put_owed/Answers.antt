@@ -1,31 +1,37 @@
-use Rattle.std.{proofs.Common.{ℕ, List, Option, None, refl, sym, subst}, specs.{Global.{Global}, Prelude.{Vec, IfSome}}}
-use Rattle.hc_folder.specs.{Causes.{HasFolderCause}, Files.{OnFiles, IsRenewed, IsRenewedOrLeft}, Recording.{AreWritten}}
-use Rattle.hc_folder.proofs.{Renewals.{as_err, renewed_whole}, Recorded.{carried, owed_left, owed_put, no_more, none_ok}}
+use Rattle.std.{proofs.Common.{[], ℕ, List, Option, None, refl, sym, subst}, specs.{Global.{Global}, Prelude.{Vec, IfSome}}}
+use Rattle.hc_folder.specs.{Causes.{HasFolderCause}, Files.{OnFiles, IsRenewed, IsRenewedOrLeft}, Written.{AreWritten}}
+use Rattle.hc_folder.proofs.{Renewals.{as_err, renewed_whole}, Recorded.{carried, each, owed_left, owed_put, no_more, none_ok}, Told.{taken_behind}}
 use Rattle.hc_folder.proofs.recording.Recorder.put_owed.Goals as goal
 
 pub returns-in_default-clause-recorded : goal.returns-in_default-clause-recorded
-returns-in_default-clause-recorded g c = λ file seed text told.
+returns-in_default-clause-recorded g c = λ file seed text.
     let r = c.args.self.now in
-    no_more (λ t. AreWritten file seed t r.owed r.number r.sum r.at r.block.items r.next r.waiting.items) text (g.F.Folder.files r.folder) told
+    let P = λ (t : List ℕ). AreWritten file seed t r.owed r.number r.sum r.at r.block.items r.next r.waiting.items in
+    let a = g.F.Folder.files r.folder in
+    no_more P (P text) text a a (each a (P text) (P text) (λ f w. w))
 
 pub returns-in_err-renew-clause-recorded : goal.returns-in_err-renew-clause-recorded
-returns-in_err-renew-clause-recorded g c = λ file seed text told.
+returns-in_err-renew-clause-recorded g c = λ file seed text.
     let r = c.args.self.now in
-    let P = AreWritten file seed text r.owed r.number r.sum r.at r.block.items r.next r.waiting.items in
-    no_more (λ t. AreWritten file seed t r.owed r.number r.sum r.at r.block.items r.next r.waiting.items) text (g.F.Folder.files c.renew.new.folder)
-    (carried (IsRenewedOrLeft c.as_slice.result.now r.number) P P
+    let P = λ (t : List ℕ). AreWritten file seed t r.owed r.number r.sum r.at r.block.items r.next r.waiting.items in
+    let a = g.F.Folder.files r.folder in
+    let b = g.F.Folder.files c.renew.new.folder in
+    no_more P (P text) text a b
+    (carried (IsRenewedOrLeft c.as_slice.result.now r.number) (P text) (P text)
     (owed_left file seed text r.number r.sum r.at r.block.items r.next r.waiting.items r.owed c.in-Some.file c.in-Some.is c.as_slice.result.now
-    c.as_slice.ensures.value) (g.F.Folder.files r.folder) (g.F.Folder.files c.renew.new.folder) c.in_err-renew.ensures.err told)
+    c.as_slice.ensures.value) a b c.in_err-renew.ensures.err)
 
 pub returns-clause-recorded : goal.returns-clause-recorded
-returns-clause-recorded g c = λ file seed text told.
+returns-clause-recorded g c = λ file seed text.
     let r = c.args.self.now in
-    no_more (λ t. AreWritten file seed t None r.number r.sum r.at r.block.items r.next r.waiting.items) text (g.F.Folder.files c.renew.new.folder)
-    (carried (IsRenewed c.as_slice.result.now r.number)
-    (AreWritten file seed text r.owed r.number r.sum r.at r.block.items r.next r.waiting.items)
-    (AreWritten file seed text None r.number r.sum r.at r.block.items r.next r.waiting.items)
+    let P = λ (t : List ℕ). AreWritten file seed t r.owed r.number r.sum r.at r.block.items r.next r.waiting.items in
+    let Q = λ (t : List ℕ). AreWritten file seed t None r.number r.sum r.at r.block.items r.next r.waiting.items in
+    let a = g.F.Folder.files r.folder in
+    let b = g.F.Folder.files c.renew.new.folder in
+    no_more Q (P text) text a b
+    (carried (IsRenewed c.as_slice.result.now r.number) (P text) (Q text)
     (owed_put file seed text r.number r.sum r.at r.block.items r.next r.waiting.items r.owed c.in-Some.file c.in-Some.is c.as_slice.result.now
-    c.as_slice.ensures.value) (g.F.Folder.files r.folder) (g.F.Folder.files c.renew.new.folder) c.in_ok-renew.ensures.ok told)
+    c.as_slice.ensures.value) a b c.in_ok-renew.ensures.ok)
 
 -- THE IMAGE IS THERE
 
@@ -105,3 +111,33 @@ returns-in_err-renew-clause-told g c = refl
 
 pub returns-clause-told : goal.returns-clause-told
 returns-clause-told g c = refl
+
+-- THE INVARIANT
+
+pub invariant_of-self : goal.invariant_of-self
+invariant_of-self g c =
+    let r = c.args.self.now in record { small = r.small; written = r.written }
+
+pub invariant_of-self-in-Break-1 : goal.invariant_of-self-in-Break-1
+invariant_of-self-in-Break-1 g c =
+    let r = c.args.self.now in
+    record {
+      small = r.small;
+      written = taken_behind r.owed r.owed r.number r.sum r.sum r.at r.at r.block.items r.block.items r.next r.next r.waiting.items r.waiting.items
+          (IsRenewedOrLeft c.as_slice.result.now r.number)
+          (λ file seed text. owed_left file seed text r.number r.sum r.at r.block.items r.next r.waiting.items r.owed c.in-Some.file c.in-Some.is
+          c.as_slice.result.now c.as_slice.ensures.value)
+          (g.F.Folder.files r.folder) (g.F.Folder.files c.renew.new.folder) c.in_err-renew.ensures.err r.written;
+    }
+
+pub invariant_of-self-2 : goal.invariant_of-self-2
+invariant_of-self-2 g c =
+    let r = c.args.self.now in
+    record {
+      small = r.small;
+      written = taken_behind r.owed None r.number r.sum r.sum r.at r.at r.block.items r.block.items r.next r.next r.waiting.items r.waiting.items
+          (IsRenewed c.as_slice.result.now r.number)
+          (λ file seed text. owed_put file seed text r.number r.sum r.at r.block.items r.next r.waiting.items r.owed c.in-Some.file c.in-Some.is
+          c.as_slice.result.now c.as_slice.ensures.value)
+          (g.F.Folder.files r.folder) (g.F.Folder.files c.renew.new.folder) c.in_ok-renew.ensures.ok r.written;
+    }

@@ -1,12 +1,13 @@
 -- What a folder keeps is what its files say.
-use Rattle.std.{specs.{Prelude.{Ok, IfSome}, Result.{IsErrAnd}}, proofs.Common.{◌≡◌, ◌≢◌, ℕ, ◌+◌, ◌<◌, List, Option, Some, None, Result, Err, refl, ap, sym, ◌∙◌, subst, arith, inl, inr}}
+use Rattle.std.{specs.{Prelude.{Ok, IfSome, IsSomeAnd, OnOk}, Result.{IsErrAnd}}, proofs.Common.{◌≡◌, ◌≢◌, ℕ, ◌+◌, List, Option, Some, None, Result, Err, refl, ap, sym, ◌∙◌, subst, arith, inl, inr}}
 use Rattle.hc_io.specs.{Faults.{HasRisen}, Memory.{PlainState}}
 use Rattle.hc_rules.specs.declared.room.Limits.{Limits}
 use Rattle.hc_contents.specs.declared.contents.Contents.{Contents}
 use Rattle.hc_saving.specs.{declared.recovering.RecoverError.{RecoverError}, Recovers.{Recovers, bytes_of}}
 use Rattle.hc_saving.specs.declared.recovering.RecoverError.TheVariants as recovering
-use Rattle.hc_folder.specs.{declared.reading.{FilesError.{FilesError}, Said.{Said}}, Files.{Files}, Says.{Says, Reads, HasFilesCause}}
+use Rattle.hc_folder.specs.{declared.reading.{FilesError.{FilesError}, Said.{Said}}, Files.{Files, HasNoneFrom}, Says.{Says, Reads, HasFilesCause}}
 use Rattle.hc_folder.specs.Says as says
+use Rattle.hc_folder.proofs.SaidOnce.{said_once, unused_behind}
 use Rattle.hc_keeping.specs.{declared.keeping.{KeepError.{KeepError}, Kept.{Kept}}, Keeps.{HasKeepCause, Keeps, KeepsText}}
 use Rattle.hc_keeping.specs.declared.keeping.KeepError.TheVariants as error
 use Rattle.hc_keeping.specs.Keeps as keeps
@@ -40,6 +41,31 @@ pub text_cause : (limits : Limits) (image : Option (List ℕ)) (n : ℕ) (text :
     KeepsText limits image n text result → b ≡ a → HasKeepCause a b result
 text_cause limits image n text a b _ (keeps.found left kept q next) same = same
 text_cause limits image n text a b _ (keeps.refused left why q calm) same = same
+
+-- THEY SAY IT ONCE
+
+pub keeps_said : (limits : Limits) (f : Files) (result : Result Kept KeepError) (image : Option (List ℕ)) (n : ℕ) (text : List ℕ) → Says f image n text →
+    Keeps limits f result → OnOk result (KeepsText limits image n text result)
+keeps_said limits f (Err e) image n text said kept = tt
+keeps_said limits f (Ok found) image n text said (keeps.recovered image' n' text' _ said' q) =
+    let same = said_once f image' image n' n text' text said' said in
+    subst (λ (i : Option (List ℕ)). KeepsText limits i n text (Ok found)) same.image_is
+    (subst (λ (k : ℕ). KeepsText limits image' k text (Ok found)) same.number_is
+    (subst (λ (t : List ℕ). KeepsText limits image' n' t (Ok found)) same.text_is q))
+
+pub files_said : (limits : Limits) (o : Option Files) (result : Result Kept KeepError) (image : Option (List ℕ)) (n : ℕ) (text : List ℕ) →
+    IsSomeAnd o (λ (f : Files). Says f image n text) → IfSome o (λ (f : Files). Keeps limits f result) → OnOk result (KeepsText limits image n text result)
+files_said limits None result image n text said kept = absurd said
+files_said limits (Some f) result image n text said kept = keeps_said limits f result image n text said kept
+
+-- no record has the next number, or a higher one
+pub next_unused : (limits : Limits) (f : Files) (kept : Kept) → Keeps limits f (Ok kept) → HasNoneFrom kept.next f
+next_unused limits f kept (keeps.recovered image n text _ said (keeps.found left _ q next)) =
+    subst (λ (k : ℕ). HasNoneFrom k f) (sym next) (unused_behind f image n text said)
+
+pub none_found : (P : Type 0) (Q : KeepError → Type 0) (result : Result Kept KeepError) → IsErrAnd result Q → OnOk result P
+none_found P Q (Ok x) is = absurd is
+none_found P Q (Err e) is = tt
 
 -- A source in memory has no faults.
 pub no_fault : (why : RecoverError) (result : Result Contents RecoverError) → result ≡ Err why → (result ≡ Err recovering.SourceFailed → HasRisen 0 0) →

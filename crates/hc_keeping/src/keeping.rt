@@ -1,6 +1,6 @@
 //! What a folder keeps.
-ghost use Rattle.std.specs.Prelude.{◌≡◌, IfSome};
-ghost use Rattle.hc_folder.specs.Says.{IsSmall};
+ghost use Rattle.std.specs.Prelude.{◌≡◌, ℕ, List, Option, IfSome, IsSomeAnd, OnOk};
+ghost use Rattle.hc_folder.specs.Says.{IsSmall, Says};
 ghost use Rattle.hc_saving.specs.Recovers.{bytes_of};
 ghost use Rattle.hc_keeping.specs.Keeps.{HasKeepCause, Keeps, KeepsText};
 
@@ -49,6 +49,11 @@ pub fn recover_kept<F: Folder>(
     folder: &mut F,
 ) -> Result<Kept, KeepError>
     ensures keeps { IfSome (F.files folder.old) (λ files. Keeps limits files result) }
+
+    // What is found is what is left of the image and the text that the files say: they say one of each.
+    ensures found { (image : Option (List ℕ)) (n : ℕ) (text : List ℕ)
+        → IsSomeAnd (F.files folder.old) (λ files. Says files image n text)
+        → OnOk result (KeepsText limits image n text result) }
     ensures same { F.files folder.new ≡ F.files folder.old }
     ensures cause { HasKeepCause (F.faults folder.old) (F.faults folder.new) result }
 {

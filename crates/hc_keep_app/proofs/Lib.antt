@@ -1,1 +1,2 @@
 pub mod Unserved
+pub mod Kept

@@ -1,5 +1,6 @@
 -- What came of serving what a folder keeps.
-use Rattle.std.specs.Prelude.{◌≡◌, ◌≢◌, ◌⊎◌, ℕ, ◌+◌, ◌<◌, ◌≤◌, ◌^◌, true, Option, Some, None, IfSome, Result, Ok, Err}
+use Rattle.std.specs.Prelude.{◌≡◌, ◌≢◌, ◌⊎◌, ℕ, ◌+◌, ◌<◌, ◌≤◌, ◌^◌, true, List, [], Option, Some, None, IfSome, IsSomeAnd, Result, Ok, Err}
+use Rattle.std.specs.Option.{option_map}
 use Rattle.hc_rules.specs.declared.room.Limits.{Limits}
 use Rattle.hc_contents.specs.Fit.{unfit_of}
 use Rattle.hc_contents.specs.PlainContents.{plain_contents}
@@ -13,12 +14,16 @@ use Rattle.hc_wire.specs.declared.event.WireError.TheVariants as wire
 use Rattle.hc_core.specs.Steps.{limits_in, steps, bytes_received}
 use Rattle.hc_core.specs.declared.begin.ContentsError.{ContentsError}
 use Rattle.hc_core.specs.declared.begin.ContentsError.TheVariants as refusal
+use Rattle.hc_folder.specs.Closing.{StandsAs}
 use Rattle.hc_folder.specs.Files.{Files}
+use Rattle.hc_folder.specs.declared.recording.Standing.{Standing}
+use Rattle.hc_image.specs.Images.{image_of}
 use Rattle.hc_keeping.specs.Images.{IsNewImage}
 use Rattle.hc_keeping.specs.Keeps.{HasKeepCause, Keeps}
 use Rattle.hc_keeping.specs.declared.keeping.KeepError.{KeepError}
 use Rattle.hc_keeping.specs.declared.keeping.Kept.{Kept}
 use Rattle.hc_proxy.specs.Keeping.{IsStocked}
+use Rattle.hc_proxy.specs.Recorded.{Records}
 use Rattle.hc_proxy.specs.Rows.{setting_of}
 use Rattle.hc_proxy.specs.Served.{ServesWith}
 use Rattle.hc_keep_app.specs.declared.serving.Ready.{Ready}
@@ -28,14 +33,31 @@ use Rattle.hc_keep_app.specs.declared.serving.Unserved.TheVariants as why
 
 -- WHAT IS SERVED
 
+-- The text that a folder takes, if it tells its files.
+abbrev pub taken_by : Option Files → List ℕ → Option (List ℕ)
+taken_by files text = option_map (λ (f : Files). text) files
+
+-- Where a folder tells its files, it tells them on, and they say the image of these contents, and behind that a first part of this
+-- text, or all of it. While the image is owed, nothing is said of them.
+abbrev pub IsKept : Contents → ℕ → List ℕ → Standing → Option Files → Option Files → Type 0
+IsKept contents n text standing None files' = files' ≡ None
+IsKept contents n text standing (Some f) files' =
+    IsSomeAnd files' (λ (f' : Files). ∥ StandsAs (image_of contents) n text f' standing ∥₁)
+
 -- The wire was bound as it is asked, and served from the contents that were recovered of the files, with a front for requests on
--- condition of a copy: what happened is a run from these contents, in which each consumer reads one answer whole.
-pub record IsServed (serving : Serving) (files : Option Files) (log log' : Option Log) (end : Ended) : Type 0 where
+-- condition of a copy: what happened is a run from these contents, in which each consumer reads one answer whole. The text that was
+-- recorded of it, all or a first part, is kept in the folder behind the image of the contents.
+pub record IsServed (serving : Serving) (files : Option Files) (log log' : Option Log) (files' : Option Files) (standing : Standing) (end : Ended)
+    : Type 0 where
   pub kept : Kept
   pub recovered : IfSome files (λ f. Keeps serving.limits f (Ok kept))
   pub bound : Option Log
   pub binds : Reports log bound (with_binding (Some serving.listen) (Some serving.origin))
-  pub serves : ServesWith serving.limits (setting_of (plain_contents kept.contents) true) serving.turns bound log' None None end
+  pub text : List ℕ
+  pub serves : ServesWith serving.limits (setting_of (plain_contents kept.contents) true) serving.turns bound log'
+      (taken_by files []) (taken_by files text) end
+  pub records : Records serving.limits (plain_contents kept.contents) (taken_by files []) (taken_by files text) end
+  pub keeps : IsKept (plain_contents kept.contents) kept.next text standing files files'
   -- no record in memory or in a folder fails
   pub never : end ≢ ended.SinkFailed
 
@@ -72,6 +94,7 @@ HasEndedWire before now _ = now ≡ before
 pub record IsReady (limits : Limits) (contents : Contents) (next : ℕ) (ready : Ready) : Type 0 where
   pub image : IsNewImage contents next ready.image
   pub next_is : ready.next ≡ next
+  pub numbered : next < 2 ^ 62
   pub stocked : IsStocked contents ready.cache ready.last
   pub few : ready.last < 2 ^ 61
   pub unused : steps ready.cache + bytes_received ready.cache ≡ 0

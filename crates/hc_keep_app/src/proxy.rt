@@ -107,7 +107,7 @@ fn keep(rt: HostRuntime, plan: Plan<'_>, store: &str) -> Ending {
     let folder = StdFolder::new(files, path);
     let mut wire = MioWire::with_patience(net, plan.patience);
     match serve_kept(rt.alloc(), serving, folder, &mut wire, &mut teller) {
-        Ok(ended) => ended_as(ended),
+        Ok(served) => ended_as(served.ended),
         Err(refused) => unserved(&rt, plan, store, refused.why),
     }
 }

@@ -8,7 +8,7 @@ ghost use Rattle.hc_keep_app.specs.Serving.{HasEndedWire, HasFolderEnd, HasRefus
 
 use hc_contents::Contents;
 use hc_core::{Cache, ContentsError};
-use hc_folder::{Folder, Recorder};
+use hc_folder::{Folder, Recorder, Standing};
 use hc_keeping::{KeepError, Kept, NewImage, new_image, recover_kept};
 use hc_proxy::serve_from;
 use hc_rules::Limits;
@@ -82,6 +82,15 @@ impl From<WireError> for Unserved {
     }
 }
 
+/// A folder whose store was served.
+#[derive(Drop)]
+pub struct Served<F> {
+    pub folder: F,
+    pub ended: Ended,
+    /// What of the record stands in the folder.
+    pub standing: Standing,
+}
+
 /// A folder whose store isn't served.
 #[derive(Drop)]
 pub struct Refused<F> {
@@ -115,20 +124,22 @@ pub fn serve_kept<F: Folder + Drop, W: Wire, T: Watcher>(
     folder: F,
     wire: &mut W,
     watcher: &mut T,
-) -> Result<Ended, Refused<F>>
+) -> Result<Served<F>, Refused<F>>
     requires fresh { IfSome (W.log wire.old) IsFresh }
     requires unseen { (k : ℕ) → W.stages wire.old k ≡ Unseen }
 
-    // What is served is what the files say, as `recover_kept` and `serve_from` tell.
-    ensures served { IfOk result (IsServed serving (F.files folder) (W.log wire.old)
-        (W.log wire.new)) }
+    // What is served is what the files said, as `recover_kept` and `serve_from` tell. Then they say the
+    // image of that, and a first part of what was recorded.
+    ensures served { IfOk result (λ served. IsServed serving (F.files folder) (W.log wire.old)
+        (W.log wire.new) (F.files served.folder) served.standing served.ended) }
     ensures refused { IfErr result (λ refused. IsUnserved serving.limits (F.files folder)
         refused.why) }
     ensures files { IfErr result (λ refused. F.files refused.folder ≡ F.files folder) }
     ensures unasked { OnErr result (W.log wire.new ≡ W.log wire.old) }
     ensures folder { IfErr result (λ refused. HasFolderEnd (F.faults folder)
         (F.faults refused.folder) refused.why) }
-    ensures wire { IfOk result (HasEndedWire (W.faults wire.old) (W.faults wire.new)) }
+    ensures wire { IfOk result (λ served. HasEndedWire (W.faults wire.old) (W.faults wire.new)
+        served.ended) }
     ensures unbound { IfErr result (λ refused. HasRefusedWire (W.faults wire.old)
         (W.faults wire.new) refused.why) }
 {
@@ -139,7 +150,7 @@ pub fn serve_kept<F: Folder + Drop, W: Wire, T: Watcher>(
     };
     let image = ready.image;
     let mut log = Recorder::begin(alloc, folder, image.file, ready.next, image.sum);
-    Ok(serve_from(
+    let ended = serve_from(
         alloc,
         ready.cache,
         ready.last,
@@ -147,7 +158,13 @@ pub fn serve_kept<F: Folder + Drop, W: Wire, T: Watcher>(
         wire,
         &mut log,
         serving.turns,
-    ))
+    );
+    let closed = log.close();
+    Ok(Served {
+        folder: closed.folder,
+        ended,
+        standing: closed.standing,
+    })
 }
 
 /// Recovers what a folder keeps, and then listens. The folder's files are as they were.

@@ -23,6 +23,7 @@ pub returns-in-Ok-clause-ok : goal.returns-in-Ok-clause-ok
 returns-in-Ok-clause-ok c = record {
   image = c.in_ok-image.ensures;
   next_is = refl;
+  numbered = c.if-kept-ge-NUMBERS.false;
   stocked = record { stands = c.in-Ok.ensures.stands; last_is = refl };
   few = c.if-last-ge-CONSUMERS.false;
   unused = c.in-Ok.ensures.unused;

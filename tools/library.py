@@ -2,9 +2,11 @@
 """Proves and builds the library that programs link: libvosdrieng.a, libvosdrieng.so, vosdrieng.h and vosdrieng.pc.
 
 usage: tools/library.py [FOLDER]
+       tools/library.py --over-gate [FOLDER]
 
 FOLDER is out/library where none is named. What is proved is the crate hc_c and those below it. The archive has that, and the
-functions of the kit in C on which it stands, which call malloc, realloc and free. It takes gcc and ar.
+functions of the kit in C on which it stands, which call malloc, realloc and free. It takes gcc and ar. `--over-gate` takes the
+libraries that `rt ci` left in this clone as they are, and proves hc_c alone.
 """
 import os
 import pathlib
@@ -57,6 +59,28 @@ def objects(archive, into):
     return sorted(into.iterdir())
 
 
+def over_gate():
+    """The archive of hc_c, over the libraries that the gate left. What the toolchain said, where it makes none."""
+    home, lines, crates = kit(), crate_lines(), below([LIBRARY])[:-1]
+    named = {it: f"{home}/rlibs/{it}.rlib" for it in ("std", *lines[LIBRARY])}
+    named |= {it: f"{CRATES}/{it}/out/rlib/{it}.rlib" for it in lines[LIBRARY] if it in crates}
+    words = [word for name, library in named.items() for word in ("--extern", f"{name}={library}")]
+    words += [word for it in crates for word in ("-L", f"dependency={CRATES}/{it}/out/rlib")]
+    words += ["-L", f"dependency={home}/rlibs", "--antt-project", f"{home}/rattle/logic/antt-project.json"]
+    words += ["--logic-built", f"{home}/logic_built", "--links", f"{LIBRARY}=", "--toolchain", f"{home}/toolchain"]
+    words += ["--crate-type", "staticlib", "-o", f"out/lib{LIBRARY}.a"]
+    (CRATES / LIBRARY / "out").mkdir(exist_ok=True)
+    build = [f"{home}/bin/rattle", "build", "--crate-name", LIBRARY, "src/lib.rt", *words]
+    ran = subprocess.run(build, cwd=CRATES / LIBRARY, stdout=subprocess.PIPE, stderr=subprocess.STDOUT, text=True)
+    return ran.stdout if ran.returncode else None
+
+
+def over_nothing():
+    """The archive of hc_c, and all libraries below it. What the toolchain said, where one isn't proved."""
+    lines, crates = crate_lines(), below([LIBRARY])
+    return build_all({crate: [it for it in lines[crate] if it in crates] for crate in crates}, at_once())
+
+
 def link(archives, folder):
     """One archive of all the objects, and a shared library of them, with a link to it by its soname."""
     with tempfile.TemporaryDirectory() as room:
@@ -73,13 +97,13 @@ def link(archives, folder):
 
 
 def main(words):
+    build, words = (over_gate, words[1:]) if words[:1] == ["--over-gate"] else (over_nothing, words)
     folder = pathlib.Path(words[0] if words else TOP / "out" / "library")
     for tool in ("rt", "gcc", "ar"):
         if not shutil.which(tool):
             print(f"vosdrieng: the library isn't built yet, and {tool}, which that needs, is not here", file=sys.stderr)
             return 70
-    lines, crates = crate_lines(), below([LIBRARY])
-    fault = build_all({crate: [it for it in lines[crate] if it in crates] for crate in crates}, at_once())
+    fault = build()
     if fault:
         print("vosdrieng: " + "\n".join(fault.splitlines()[:1] + fault.splitlines()[-40:]), file=sys.stderr)
         return 70

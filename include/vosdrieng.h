@@ -311,8 +311,8 @@ size_t vosdrieng_act_bytes(vosdrieng_cache *cache, uint8_t *into, size_t room);
 ** that a replay writes of it over this cache. With the limits 16,777,216 and 268,435,456 that is the report of `vosdrieng replay`;
 ** behind vosdrieng_open they go on with the image.
 ** At BAD_TEXT `line` is the number of the line that is refused, and `why` is VOSDRIENG_LINE_BAD and so on. At any other answer neither is
-** written. The events before that line were answered, and their report is there. From then on each piece is answered BAD_TEXT, with
-** that line, and changes nothing. A call above ends the text where it is answered OK: a piece behind it is LATE.
+** written. The events before that line were answered, and their report is there. From then on each piece is answered BAD_TEXT, with that
+** line, and nothing of it is answered: its report is empty. A call above ends the text where it is answered OK: a piece behind it is LATE.
 ** At NO_MEMORY, EXHAUSTED and LATE nothing of the piece was read or answered, but that NO_MEMORY may come within it: then there is no
 ** report, and nothing is answered any more.
 ** Answers: OK, NO_HANDLE, NO_MEMORY, EXHAUSTED (2^60 bytes of text), LATE, BAD_TEXT.
